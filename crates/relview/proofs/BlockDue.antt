@@ -58,6 +58,8 @@ IsGiving lets d = ((gs : Gifts) × (d ≡ Values gs) × (length gs ≡ length le
     ⊎ ((when : When) × (o : Outcome) × (d ≡ Refused when o) × (ending o ≡ Fails))
 
 module _ (input : Input) (script : Script) where
+  -- a block gives each of its names a value or is refused, by induction on its assignments: each is computed on the
+  -- state that those before it leave
   pub block_is : (lets : List BlockLet) (s : Workspace) → IsGiving lets (due_of_block input script lets s)
   block_is [] s = inl ([], refl, refl)
   block_is (l ∷ ls) s = elim (value_is input.turns (evaluated script (lookup s) l.value input.turns)) [
@@ -74,6 +76,7 @@ module _ (input : Input) (script : Script) where
 abbrev pub IsRead : Deed → Type 0
 IsRead d = d ≡ Reads
 
+-- deeds that stand at the front of two reads are reads, and no more than two
 begin_reads : (deeds : List Deed) → Begins deeds (Reads ∷ Reads ∷ []) → AllByRecursion IsRead deeds
 begin_reads [] b = tt
 begin_reads (d ∷ []) b = (ap (head_deed d) (sym b.1), tt)
@@ -101,6 +104,7 @@ module _ (input : Input) (script : Script) (lets : List BlockLet) (item : Item) 
   one_read : (deeds : List Deed) → deeds ≡ reads_of item → AllByRecursion IsRead deeds
   one_read deeds h = subst (AllByRecursion IsRead) (sym (h ∙ acts.reads_is)) (refl, tt)
 
+  -- a block that isn't done has only read, outcome by outcome
   pub refused_reads : (o : Outcome) (deeds : List Deed) → o ≢ Done → HasDeeds (ending o) item d deeds → AllByRecursion IsRead deeds
   refused_reads Done deeds off h = absurd (off refl)
   refused_reads (Parse fault) deeds off h = one_read deeds h

@@ -30,6 +30,7 @@ lets_or d (Some l) = l
 no_block : (lets : List BlockLet) → None ≡ Some lets → HasLet lets
 no_block lets e = let z : 0 ≡ 1 = ap some_lets e in absurd (omega (arith, z))
 
+-- an item that is a block has an assignment, since it is spelled with one; the other items are no blocks
 item_has : (item : Item) (tokens rest : List Token) (lets : List BlockLet) → SpellsItem item tokens rest → lets_of item ≡ Some lets → HasLet lets
 item_has (COMMAND (Atomic own)) tokens rest lets s e = subst HasLet (ap (lets_or lets) e) (spelled_has s.3)
 item_has (COMMAND (RELATION name rows rows_at cols cols_at list)) tokens rest lets s e = no_block lets e
@@ -58,6 +59,7 @@ abbrev some_item : Option Item → ℕ
 some_item None = 0
 some_item (Some x) = 1
 
+-- and so has each block among items, by induction on these
 items_have : (items : List Item) (k : ℕ) (tokens rest : List Token) (item : Item) (lets : List BlockLet) → SpellsItems items tokens rest
     → slice_get items k ≡ Some item → lets_of item ≡ Some lets → HasLet lets
 items_have [] k tokens rest item lets s i e = let z : 0 ≡ 1 = ap some_item i in absurd (omega (arith, z))

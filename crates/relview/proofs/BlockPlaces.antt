@@ -40,6 +40,7 @@ module _ (s c : ℕ) where
   mine_other : (x : Event) (xs : List Event) → is_of s c x ≡ false → mine (x ∷ xs) ≡ mine xs
   mine_other x xs f = ap (λ b. cond b (x ∷ mine xs) (mine xs)) f
 
+  -- where a list has no event of the command, no event of it passes the test for one
   pub none_mine : (xs : List Event) → mine xs ≡ [] → list_any (is_of s c) xs ≡ false
   none_mine [] h = refl
   none_mine (x ∷ xs) h = elim (cases_Bool (is_of s c x)) [
@@ -58,6 +59,8 @@ module _ (s c : ℕ) where
     pub before : events_before s c xs ≡ pre
     pub any : list_any (is_of s c) xs ≡ true
 
+  -- the first of the command's events stands behind events of others, and the rest of its events are behind it: by
+  -- induction on the history
   pub first_at : (xs : List Event) (e : Event) (es : List Event) → mine xs ≡ e ∷ es → FirstAt xs e es
   first_at [] e es h = absurd (is_no_list e es (sym h))
   first_at (x ∷ xs) e es h = elim (cases_Bool (is_of s c x)) [
@@ -103,6 +106,7 @@ module _ (s c : ℕ) where
     pub any : list_any (is_of s c) xs ≡ true
     pub second : before_second s c xs ≡ Some (pre ++ e ∷ mid)
 
+  -- the second stands behind the first as the first of those that are left
   pub second_at : (xs : List Event) (e f : Event) (es : List Event) → mine xs ≡ e ∷ f ∷ es → SecondAt xs e f es
   second_at xs e f es h =
       let a = first_at xs e (f ∷ es) h in

@@ -67,6 +67,7 @@ some_outcome None = 0
 some_outcome (Some x) = 1
 
 module _ (input : Input) (script : Script) (s : ℕ) (f : ℕ → Workspace) where
+  -- steps from a later number on leave no entry of the command
   later_only : (c n : ℕ) (snaps : Snapshots) (items : List Item) (outcomes : List Outcome) (log : List Entry) → c < n →
       AreEvents input script s (steps_from f n snaps items outcomes) log → of_command c log ≡ []
   later_only c n snaps [] outcomes log l e = ap (of_command c) e
@@ -83,6 +84,8 @@ module _ (input : Input) (script : Script) (s : ℕ) (f : ℕ → Workspace) whe
     pub is_outcome : IsOutcome item (due input script item (f c) snap) outcome
     pub only : of_command c log ≡ entries s c deeds
 
+  -- an item with an outcome has a step, whose deeds are all entries of its number: by induction on the items, since the
+  -- other steps have other numbers
   pub find_step : (k n : ℕ) (snaps : Snapshots) (items : List Item) (outcomes : List Outcome) (log : List Entry) (item : Item) (outcome : Outcome) →
       AreEvents input script s (steps_from f n snaps items outcomes) log → AreOutcomes input script (steps_from f n snaps items outcomes) →
       slice_get items k ≡ Some item → slice_get outcomes k ≡ Some outcome → Found item outcome (n + k) log
@@ -147,6 +150,7 @@ some_lets (Some l) = 1
 no_block : (lets : List BlockLet) → None ≡ Some lets → ⊥
 no_block lets e = let z : 0 ≡ 1 = ap some_lets e in omega (arith, z)
 
+-- an item with the assignments of a block is an atomic block, and does what these ask: no other item has any
 pub acts_as_block : (input : Input) (script : Script) (lets : List BlockLet) (item : Item) → lets_of item ≡ Some lets → ActsAsBlock input script lets item
 unfolding due due_of_command
 acts_as_block input script lets (COMMAND (Atomic own)) e = record {

@@ -30,6 +30,7 @@ module _ (gifts : ℕ → ℕ → Workspace → Gifts) (words : ℕ → List ℕ
   stored_behind p [] ys h = h
   stored_behind p (x ∷ xs) ys h = stored_behind (replay_act gifts x.session x.command x.act p) xs ys h.1
 
+  -- to replay events behind others is to replay them from what those leave
   pub replay_append : (p : Replay Relation) (xs ys : List Event) → replay gifts p (xs ++ ys) ≡ replay gifts (replay gifts p xs) ys
   replay_append p [] ys = refl
   replay_append p (x ∷ xs) ys = replay_append (replay_act gifts x.session x.command x.act p) xs ys

@@ -56,6 +56,7 @@ some_list None = 0
 some_list (Some x) = 1
 
 module _ (input : Input) (history : List Event) where
+  -- a session that was read as a script ran that script with its outcomes, by induction on the sessions
   session_runs : (k s : ℕ) (readings : List Reading) (all : List (List Outcome)) (script : Script) (own : List Outcome) →
       LegalSessions input history s readings all → slice_get readings k ≡ Some (Runs script) → slice_get all k ≡ Some own →
       RunsScript input history (s + k) script own
@@ -170,6 +171,7 @@ module _ (input : Input) (history : List Event) (outcomes : List (List Outcome))
       changes_not : (name : List ℕ) (seen later : ℕ) → Changed name seen later ≡ Done → ⊥
       changes_not name seen later e = false≢true (ap (λ (x : Outcome). is_success (ending x)) e)
 
+  -- what the command gives by its number is what its block gives on the state that it read
   gifts_are : (state : Workspace) (gifts : Gifts) → state ≡ state_for input history s c → read_due ≡ Values gifts → gifts_due input s c state ≡ gifts
   unfolding gifts_due script_at item_at
   gifts_are state gifts same e =

@@ -122,6 +122,7 @@ stored_room [] a b = omega arith
 stored_room (v ∷ []) a b = rw a (omega arith)
 stored_room (v ∷ w ∷ ws) a b = let rest = stored_few ws in rw (a, b) (omega (arith, rest))
 
+-- names whose relations were moved to compacted words are carried on, since each relation keeps its value there
 pub carried_moved : (words : List ℕ) (live : Carried) (rels moved : List Rel) (next : CarriedOn) → rels ≡ map (λ entry. entry.1) live →
     IsCompacted words rels next.words.items moved → next.names ≡ renamed live moved → IsCarriedOn words live next
 carried_moved words live rels moved next e compacted names =
@@ -141,6 +142,8 @@ carried_moved words live rels moved next e compacted names =
     long : (k : ℕ) → k < length live → k < length (map (λ entry. entry.1) live)
     long k l = subst (λ n. k < n) (sym (as_long live)) l
 
+-- names are carried on in the same words where these have less room than their uses of nodes would need: so at most as
+-- many nodes are stored there as are used
 pub carried_same : (words : List ℕ) (live : Carried) (rels : List Rel) (next : CarriedOn) → rels ≡ map (λ entry. entry.1) live → IsTable words →
     node_room words < uses_count (nodes_of words) rels → next.words.items ≡ words → next.names ≡ renamed live rels → IsCarriedOn words live next
 carried_same words live rels next e table full same names =

@@ -134,6 +134,8 @@ all_come_due words so sn o n report run lacked =
     all_come run.input.ends (length run.input.readings) rise (omega (arith, count)) (nodes_of_batch run.said.nodes report) lacked.vacant 1 outcomes (omega (arith, many)) lacked.memory
     (all_filled words so sn o n report run)
 
+-- each outcome came as it is due, session by session; and the page, the files and the status were told whole, since no
+-- count of faults rose
 pub complete_runs_law : CompleteRuns
 complete_runs_law words so sn o n report run lacked =
     let outcomes = outcomes_of report in

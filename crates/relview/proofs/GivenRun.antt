@@ -20,6 +20,8 @@ pub finished_named : (bits : ℕ) (scripts : List (List ℕ)) (files : List Load
 finished_named bits scripts files turns asked ends finished fin =
     saves_named (input_with fin.readings files turns asked ends) finished.history.items (map (λ v. v.items) finished.outcomes.items) scripts finished.saves.items fin.run.read fin.run.files_put
 
+-- a finished run was read and is lawful; the report has its history, outcomes and words, so what was told of its page
+-- and files is told of those of the report
 pub given_ran : (bits : ℕ) (scripts : List (List ℕ)) (files : List Loaded) (turns : ℕ) (asked : Bool) (ends : List ℕ) (so sn : Told) (o n : Sunk) (report : Report) (finished : Finished)
     → IsFinished bits scripts files turns asked ends finished → report.ran ≡ true → report.history.items ≡ finished.history.items → report.outcomes.items ≡ finished.outcomes.items
     → report.old.items ≡ finished.old.items → report.words.items ≡ finished.words.items

@@ -149,6 +149,8 @@ module _ (bits : ℕ) (files : List Loaded) (turns : ℕ) (scripts : List (List 
       (live_alike (nodes_of so_far.words.items) (nodes_of next.words.items) live next.names (state_left (batch_of_past s.last)) c.alike
       (subst (λ ws. LiveIn ws live (state_left (batch_of_past s.last))) (sym old) here))
 
+  -- the new batch begins with what the last one left, so it joins those that are over; and its events, outcomes, table
+  -- and names go behind theirs
   pub more_done : (table : Table) (seat : View) (seats number : ℕ) (more : List (List ℕ)) (next : CarriedOn) (ran : OverTable) (old : OldBatch) (new : SoFar)
       → number ≡ 1 + length scripts → 1 ≤ length more → IsCarriedOn so_far.words.items old.live.items next → old.live.items ≡ so_far.names → old.words.items ≡ so_far.words.items
       → old.upto ≡ length so_far.events.items → IsOpened bits next.words.items seats (table, seat)

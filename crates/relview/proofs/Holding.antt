@@ -82,24 +82,24 @@ module _ (w : Worker) (words : List ℕ) (found : (rel : Rel) → Stands w rel �
 
 -- ---- the words
 -- the seat that is given back is of the table that was made
-pub of_table : (table : Table) (seat last : View) (w : Keeper) → (worker_of w).house ≡ (worker_of (record { table = table; view = seat; misses = 0 })).house
+pub of_table : (table : Table) (seat last : View) (w : Keeper) → (worker_of w).house ≡ (worker_of (record { table = table; view = seat; misses = seat.refused })).house
     → IsOf last w.table → IsOf last table
 of_table table seat last w house of = subst (λ t. IsOf last t) (house_of-injective w.table table house) of
 
 -- as many seats as were made are there to be closed
-pub whole_table : (table : Table) (seat last : View) (w : Keeper) → seat.spare + 1 ≡ table.seats → (worker_of w).spare ≡ (worker_of (record { table = table; view = seat; misses = 0 })).spare
+pub whole_table : (table : Table) (seat last : View) (w : Keeper) → seat.spare + 1 ≡ table.seats → (worker_of w).spare ≡ (worker_of (record { table = table; view = seat; misses = seat.refused })).spare
     → last ≡ w.view → last.spare + 1 ≡ table.seats
 whole_table table seat last w seats spare view = ap (λ v. v.spare + 1) view ∙ ap (λ n. n + 1) spare ∙ seats
 
 -- names whose relations stand in the words of a seat stand in its worker
-pub named_stand : (table : Table) (seat : View) (names : Carried) → AllNamed seat.words names → AllNamesStand (worker_of (record { table = table; view = seat; misses = 0 })) names
+pub named_stand : (table : Table) (seat : View) (names : Carried) → AllNamed seat.words names → AllNamesStand (worker_of (record { table = table; view = seat; misses = seat.refused })) names
 named_stand table seat [] h = tt
 named_stand table seat (entry ∷ names) h = (h.0, named_stand table seat names h.1)
 
 -- a batch over a table, whose seat was given back and closed
 pub ran_over : (bits : ℕ) (table : Table) (seat last : View) (w : Keeper) (scripts : List (List ℕ)) (number : ℕ) (files : List Loaded) (turns : ℕ) (first : First) (ran : OverTable)
     → table.bits ≡ bits
-    → CameToEnd bottom_height scripts number files turns first (worker_of (record { table = table; view = seat; misses = 0 })) (worker_of w)
+    → CameToEnd bottom_height scripts number files turns first (worker_of (record { table = table; view = seat; misses = seat.refused })) (worker_of w)
     ran.events.items ran.told.items ran.names (noted ran.versions)
     → last ≡ w.view → IsOf last table → (w.misses ≢ 0 → IsFull last.words) → IsClosed table.bits last ran.words.items
     → RanOver bits scripts number files turns first seat ran

@@ -77,6 +77,7 @@ runs_one input history outcomes reading read legal all =
       legal = subst (IsLegal input history) first.1 legal;
     }
 
+-- one script gives one reading, and a lawful run of that for which all sufficed is the one that the script decides
 pub alone_is_solo : AloneIsSolo
 alone_is_solo words a b o n report ran one all =
     let read = one_reading ran.said a.files ran.input one ran.given in
@@ -123,6 +124,8 @@ runs_are_one words others a b c d o n p q first second ran again one alike all e
     are_one ran.input again.input first.history.items second.history.items (outcomes_of first) (outcomes_of second) read.0
     read.1 same ran.legal again.legal all every
 
+-- both runs have the same outcomes and history, and so one page and the same files: what was told of the second is told
+-- of those of the first
 pub alone_is_one_run : AloneIsOneRun
 alone_is_one_run words others a b c d o n p q first second ran again one alike all every =
     let r = runs_are_one words others a b c d o n p q first second ran again one alike all every in
@@ -136,6 +139,8 @@ alone_is_one_run words others a b c d o n p q first second ran again one alike a
           (told_alike c d p q _ _ _ _ (status_of os) second.status r.page r.saves again.told);
     }
 
+-- both runs are complete, so that each wrote its whole page and put all its files; and these are the same, as both are
+-- one run
 pub alone_is_one_answer : AloneIsOneAnswer
 alone_is_one_answer words others a b c d o n p q first second files ran again one told retold ask lacked none =
     let alike = same_files_read_alike words others a b c d o n p q first second files ran again told retold ask in

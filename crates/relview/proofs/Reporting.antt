@@ -43,6 +43,8 @@ as_many [] (r ∷ rs) h = absurd h
 as_many (b ∷ bs) [] h = absurd h
 as_many (b ∷ bs) (r ∷ rs) h = let rest = as_many bs rs h.1 in omega (arith, rest)
 
+-- what ran over scripts and files ran over what the words give, since these are the scripts, files and options that
+-- they name
 ran : (words : List Word) (said : Said) (so mid sn : Told) (o n : Sunk) (scripts : List (List ℕ)) (files : List Loaded) (ends : List ℕ) (report : Report) → GivesRun words said so mid scripts files ends
     → RanGiven said.nodes scripts files said.turns said.history ends mid sn o n report → HasRun words so sn o n report
 ran words said so mid sn o n scripts files ends report g r = record {

@@ -28,6 +28,8 @@ none_in : (ends : List ℕ) (b : ℕ) (words : List ℕ) → (IsFull words → �
 none_in ends b words vacant s [] h = tt
 none_in ends b words vacant s (os ∷ others) h = (λ e. none_of words vacant os (h.0 e), none_in ends b words vacant (s + 1) others h.1)
 
+-- the words of a batch store at most what lived on into it and what its commands cost; where this is less than their
+-- places, one is vacant, and no command found them full
 pub enough_room : EnoughRoom
 enough_room words a b o n report ran k within few =
     let bits = ran.said.nodes in

@@ -28,6 +28,7 @@ module _ (bits : ℕ) (input : Input) (history : List Event) (outcomes : List (L
   of_batch : (b from upto uses : ℕ) (words : List ℕ) → HoldsBatch bits input history outcomes b from upto uses words → HasTable bits input history outcomes b uses words
   of_batch b from upto uses words h = record { sound = h.sound; cost = h.cost; full = h.full }
 
+  -- the table at a batch's number holds that batch, by induction on the batches that are over
   pub table_at : (b from uses : ℕ) (olds : List OldBatch) (last : List ℕ) → HoldsFrom bits input history outcomes b from uses olds last → (k : ℕ) → k < 1 + length olds →
       HasTable bits input history outcomes (b + k) (uses_before bits uses olds k) (words_of_batch olds last k)
   table_at b from uses [] last h zero l =
@@ -69,6 +70,7 @@ replay_append : (gifts : ℕ → ℕ → Workspace → Gifts) (p : Replay Relati
 replay_append gifts p [] ys = refl
 replay_append gifts p (x ∷ xs) ys = replay_append gifts (replay_act gifts x.session x.command x.act p) xs ys
 
+-- some first events, with some of those behind them, are as many first events as both together
 take_further : (m n : ℕ) (xs : List Event) → take m xs ++ take n (drop m xs) ≡ take (m + n) xs
 take_further zero n xs = ap (λ k. take k xs) (whole n)
   where
@@ -93,6 +95,7 @@ parts_of zero xs = refl
 parts_of (suc n) [] = refl
 parts_of (suc n) (x ∷ xs) = ap (λ (l : List Event). x ∷ l) (parts_of n xs)
 
+-- to leave out some events and then some more is to leave out as many as both together
 drop_further : (m n : ℕ) (xs : List Event) → drop n (drop m xs) ≡ drop (m + n) xs
 drop_further zero n xs = ap (λ k. drop k xs) (whole n)
   where
@@ -139,6 +142,8 @@ module _ (bits : ℕ) (input : Input) (history : List Event) (outcomes : List (L
       let behind = subst (StoredBy gifts by_session (replay gifts p own)) after (subst (λ q. StoredBy gifts by_session q (drop upto history)) (sym state) rest) in
       subst (StoredBy gifts by_session p) (sym (parts_of (upto - from) (drop from history))) (stored_append gifts by_session p own (drop (upto - from) (drop from history)) here behind)
 
+  -- from a batch on all events are stored in the words of their batches: its own in its words, and those behind by
+  -- induction
   stored_from : (b from uses : ℕ) (olds : List OldBatch) (last : List ℕ) → ((k : ℕ) → k < 1 + length olds → nodes (b + k) ≡ node_words bits (words_of_batch olds last k)) →
       HoldsFrom bits input history outcomes b from uses olds last → Behind from
   stored_from b from uses [] last same h =

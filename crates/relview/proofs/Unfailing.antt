@@ -24,6 +24,8 @@ use Rattle.relview.proofs.Beginning.{runs_begin_law}
 no_rise : (before now : ℕ) → now ≡ 0 → Rose before now → ⊥
 no_rise before now e r = omega (arith, e, r)
 
+-- where the counts of faults are nothing in the end, none of them rose: so a run begins, and is complete if memory and
+-- nodes sufficed
 pub is_sure : (words : List Word) (so sn : Told) (o n : Sunk) (report : Report) → sn.faults ≡ 0 → sn.put_faults ≡ 0
     → n.faults ≡ 0 → Answers words so sn o n report → IsSure words so sn o n report
 is_sure words so sn o n report faults put_faults writes answers = record {

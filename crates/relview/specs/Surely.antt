@@ -12,8 +12,8 @@ use Rattle.relview.specs.declared.report.Report.{Report}
 
 -- the file of each FILE word is within its limit
 abbrev pub FilesFit : Files → List Word → Type 0
-FilesFit files words = AllByRecursion (λ word. (bytes : List ℕ) → files word ≡ Some bytes → length bytes ≤ limit_of word)
-    (file_words words)
+FilesFit files words = AllByRecursion
+    (λ word. (bytes : List ℕ) → files word ≡ Some bytes → length bytes ≤ limit_of word) (file_words words)
 
 -- a run answered its words, and no call failed
 pub record IsSure (words : List Word) (shelf_old shelf_new : Told) (old new : Sunk) (report : Report) : Type 0 where

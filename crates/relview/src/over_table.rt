@@ -58,6 +58,7 @@ pub fn run_over_table<R: Threads + Wait + Sync, G: Gate + Sync>(
     requires limits { All (λ v. length v.items ≤ script_limit) scripts.now }
     requires size { table.bits ≡ options.now.nodes }
     requires of { IsOf seat table }
+    requires none_refused { seat.refused ≡ 0 }
     requires seats { table.seats ≡ 65 * length scripts.now + 3 }
     requires spare { seat.spare ≡ 65 * length scripts.now + 2 }
     requires stand { AllNamed seat.words names }

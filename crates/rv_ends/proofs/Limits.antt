@@ -104,6 +104,7 @@ closure_short s h =
     let f : List ℕ = e ++ decimal s in
     more_of f (codes ".") 53 1 (more_digits e 44 s (more_of d (codes "). COUNT C") 34 10 (more_digits c 25 s (more_of b (codes " = trans(G") 15 10 (more_digits a 6 s (exact a 6 refl) h) refl) h) refl) h) refl
 
+-- the text of the other two counts is short: so are its words, and each of its four numbers adds at most 9 bytes
 counts_short : (s : ℕ) → s ≤ 8 → length (counts_text s) ≤ 66
 unfolding counts_text
 counts_short s h =

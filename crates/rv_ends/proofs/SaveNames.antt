@@ -5,8 +5,8 @@ use Rattle.std.specs.List.{AllByRecursion, flat_map}
 use Rattle.std.specs.Str.{IsAscii, IsUtf8}
 use Rattle.std.proofs.lemmas.Str.{IsUtf8-from_ascii}
 use Rattle.std.proofs.lemmas.List.Elements.{All-cons, All-nil}
-use Rattle.lang_model.specs.declared.syntax.Column.{Column}
-use Rattle.lang_model.specs.declared.syntax.Row.{Row}
+use Rattle.lang_model.specs.declared.rows.Column.{Column}
+use Rattle.lang_model.specs.declared.rows.Row.{Row}
 use Rattle.lang_model.specs.declared.syntax.Decl.{Decl}
 use Rattle.lang_model.specs.declared.syntax.Decl.TheVariants.{Variable, Domain}
 use Rattle.lang_model.specs.declared.syntax.Command.{Command}
@@ -85,6 +85,7 @@ mutual
   behind_lets (last_sign tokens rest sign) h = behind sign h
   behind_lets (more_lets ls tokens mid rest sign s) h = block_lets s (behind sign h)
 
+-- tokens whose file texts are ASCII leave such tokens behind a command, since its parts take tokens from the front
 one_command : (command : Command) (tokens rest : List Token) → SpellsCommand command tokens rest → AreTexts tokens → AreTexts rest
 one_command (REL name rows rows_at cols cols_at list) tokens rest s h = behind s.10 (all_rows list.items _ _ s.9 (behind s.8 (behind_at s.7 (behind_at s.6 (behind s.5.2 (behind s.5.1 h))))))
 one_command (Let name value) tokens rest s h = behind_expr s.4 (behind s.3 (behind s.2.2 (behind s.2.1 h)))
@@ -102,6 +103,7 @@ one_command (SaveAll file) tokens rest s h = behind s.4 (behind s.3 (behind s.2 
 one_command (Atomic lets) tokens rest s h = behind s.4 (block_lets s.3 (behind s.2 h))
 one_command (Explain value) tokens rest s h = behind_expr s.2 (behind s.1 h)
 
+-- and they leave such tokens behind an item, for the same reason
 one_item : (item : Item) (tokens rest : List Token) → SpellsItem item tokens rest → AreTexts tokens → AreTexts rest
 one_item (Function at name ps body) tokens rest s h = behind_expr s.4 (behind s.3 (head at name ps.items _ _ s.2 h))
 one_item (Program at name ps decls body result) tokens rest s h =
@@ -118,6 +120,7 @@ record SavesNamed (item : Item) : Type 0 where
   value : (r : Relation) → AreNamed (saved_of item r)
   whole : (bytes : List ℕ) → AreNamed (written_of item bytes)
 
+-- a file that a command saves of its value has an ASCII name: only SAVE saves one, under a file text of its tokens
 command_saves : (command : Command) (tokens rest : List Token) → SpellsCommand command tokens rest → AreTexts tokens → (r : Relation) → AreNamed (saved_by command r)
 command_saves (REL name rows rows_at cols cols_at list) tokens rest s h r = tt
 command_saves (Let name value) tokens rest s h r = tt
@@ -135,6 +138,7 @@ command_saves (SaveAll file) tokens rest s h r = tt
 command_saves (Atomic lets) tokens rest s h r = tt
 command_saves (Explain value) tokens rest s h r = tt
 
+-- and so has one that a command writes of bytes: only SAVE ALL writes one, under a file text of its tokens
 command_writes : (command : Command) (tokens rest : List Token) → SpellsCommand command tokens rest → AreTexts tokens → (bytes : List ℕ) → AreNamed (written_by command bytes)
 command_writes (REL name rows rows_at cols cols_at list) tokens rest s h bytes = tt
 command_writes (Let name value) tokens rest s h bytes = tt

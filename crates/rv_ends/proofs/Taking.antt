@@ -24,6 +24,7 @@ scripts_in-append (x ∷ xs) word = by_kind (scripts_in-append xs word) (is_rela
     by_kind h true = h
     by_kind h false = ap (λ ws. x ∷ ws) h
 
+-- a relation word goes behind the other relation words, and a word of another kind adds nothing to them
 relations_in-append : (words : List Word) (word : Word) → relations_in (words ++ word ∷ []) ≡ relations_in words ++ cond (is_relation_word word) (word ∷ []) []
 relations_in-append [] word = by_kind (is_relation_word word)
   where

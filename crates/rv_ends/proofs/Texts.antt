@@ -44,6 +44,8 @@ behind_carets zero tokens rest c h = subst AreTexts (sym c) h
 behind_carets (suc n) tokens rest c h = behind_carets n c.0 rest c.2 (behind c.1 h)
 
 mutual
+  -- an expression leaves such tokens behind it, by induction on how it is spelled: each of its parts takes tokens from
+  -- the front
   pub behind_expr : {l : Level} {d : ℕ} {x : Expr} {tokens rest : List Token} → Spelled l d x tokens rest → AreTexts tokens → AreTexts rest
   behind_expr (named d at text tokens rest t) h = behind_at t h
   behind_expr (called d at text args first more tokens t1 t2 t3 t4 rest l q t opened s ls close) h = behind close (behind_listed ls (behind_expr s (behind opened (behind_at t h))))

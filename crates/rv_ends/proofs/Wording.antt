@@ -106,6 +106,7 @@ bare_part [] [] listed e = sym (ap (λ (l : Listed). l.files) (ap (λ o. unwrap_
 bare_part [] (part ∷ later) listed e = absurd (none_some listed e)
 bare_part (file ∷ files) later listed e = absurd (none_some listed e)
 
+-- with --gen no file stands in the parts; without it the first part is full, and so are those behind it
 listed_is : (number : Option ℕ) (files : List Word) (later : List (List Word)) (listed : Listed) → with_parts number files later ≡ Some listed → IsListed number listed
 listed_is (Some number) files later listed e = record {
   full = λ none. absurd (none_some number (sym none));

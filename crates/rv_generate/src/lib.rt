@@ -4,7 +4,5 @@
 pub(crate) mod draws;
 pub(crate) mod pieces;
 pub mod scripts;
-#[cfg(test)]
-mod tests;
 
 pub use scripts::{NoMemory, generate};

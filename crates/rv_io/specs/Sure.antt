@@ -32,7 +32,8 @@ is_named bytes name place = pointwise nat_eq (name_in bytes place) name
 -- the content of the first kept file of this name, if there is one
 abbrev pub kept_at : List ℕ → List Place → List ℕ → Option (List ℕ)
 kept_at bytes [] name = None
-kept_at bytes (place ∷ places) name = cond (is_named bytes name place) (Some (content_in bytes place)) (kept_at bytes places name)
+kept_at bytes (place ∷ places) name = cond (is_named bytes name place) (Some (content_in bytes place))
+    (kept_at bytes places name)
 
 -- a kept file lies within the bytes, its content after its name
 abbrev pub IsWithin : List ℕ → Place → Type 0

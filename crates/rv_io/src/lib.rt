@@ -11,8 +11,6 @@ pub mod reading;
 pub mod stdout_sink;
 pub mod sure_shelf;
 pub mod sure_sink;
-#[cfg(test)]
-mod tests;
 pub mod writing;
 
 pub use file_shelf::FileShelf;

@@ -41,6 +41,7 @@ sorted_more old new file files scripts relations sorted = record {
 lt-plus : (a b : ℕ) → nat_lt a (a + b) ≡ nat_le 1 b
 lt-plus a b = grind (arith, nat_tests)
 
+-- there is room for one part more exactly if with it there are not too many
 lt-more : (n m : ℕ) → nat_lt n m ≡ nat_le (n + 1) m
 lt-more n m = grind (arith, nat_tests)
 

@@ -146,6 +146,8 @@ module _ (s : Shape) (k : Knows s.rules) (word : Text) (rest : List Text) (later
   free_switch name (Some text) f is = refuses (Some history_rule) name (Some text) f.0 f.1 (k.switch name is) (λ e. not_empty e)
   free_switch name None f is = at_once (Some history_rule) name None history_name [] f.0 f.1 (k.switch name is) refl (ap (λ a. or_else a []) quiet)
 
+  -- an option that takes a value: one behind its '=' joins the rows at once, and without one the option waits for the
+  -- next word
   free_valued : (name : Word) (v : Option Text) → Facts word (long name v) → takes_value name ≡ true → EndsFrom s settled_now (valued_uses name v (uses_from rest)) here (word ∷ rest)
   free_valued name (Some text) f takes = at_once (Some (valued_rule name)) name (Some text) name text f.0 f.1 (k.value_long name takes) refl (ap (λ a. or_else a []) quiet)
   free_valued name None f takes =
@@ -171,6 +173,7 @@ module _ (s : Shape) (k : Knows s.rules) (word : Text) (rest : List Text) (later
         ])
   ]
 
+  -- so whatever the kind of a word, where no option waits it is met as its uses say
   free_word : (shape : Kind) → Facts word shape → EndsFrom s settled_now (free_uses shape word rest (uses_from rest)) here (word ∷ rest)
   free_word plain f = free_plain f
   free_word ends f = free_ends f
@@ -185,6 +188,7 @@ module _ (s : Shape) (k : Knows s.rules) (word : Text) (rest : List Text) (later
   abbrev open_held : Held
   open_held = held rows (Some (name, []))
 
+  -- a plain word is the value of the option that waits: it is held with it, and no option waits behind it
   value_plain : Facts word plain → EndsFrom s rows (used name word (uses_from rest None)) there (word ∷ rest)
   value_plain f =
       let id = k.value_id name takes in
@@ -226,6 +230,8 @@ module _ (s : Shape) (k : Knows s.rules) (word : Text) (rest : List Text) (later
   long_fails None v e = not_empty e
   long_fails (Some a) v e = known_fails a (takes_values a) v e
 
+  -- where an option waits only a plain word goes on: before any other kind the option has no value, or the word itself
+  -- is unknown
   value_word : (shape : Kind) → Facts word shape → EndsFrom s rows (value_uses shape name word (uses_from rest)) there (word ∷ rest)
   value_word plain f = value_plain f
   value_word ends f = value_ends f

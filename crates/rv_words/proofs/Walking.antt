@@ -196,6 +196,8 @@ short_unknown c again b bs x h k char skip = ap (λ n. flags_fault c again (leng
     ∙ (ap (λ o. bundle_step_fault c again o (b ∷ bs) 0 (record h { skip = 0 }) (flags_fault c again (length bs))) char
     ∙ ap (λ o. short_fault c again o (drop (length (encode_utf8 x)) (b ∷ bs)) (record h { skip = 0 }) (flags_fault c again (length bs) (drop (length (encode_utf8 x)) (b ∷ bs)) 0)) (k.shorts x))
 
+-- a word with one hyphen is an unknown argument: neither "--" nor a long option, it is read as short ones, of which
+-- there are none
 pub foreign_fault : (s : Shape) (waiting : Waiting) (word : Text) (h : Held) (b : ℕ) (bs : List ℕ) (x : ℕ) → Knows s.rules → subcommand_met [] waiting word ≡ None
     → bytes_eq word (45 ∷ 45 ∷ []) ≡ false → long_of word ≡ None → short_of word ≡ Some (b ∷ bs) → slice_get (chars (b ∷ bs)) 0 ≡ Some x → h.skip ≡ 0
     → word_fault s [] false waiting word h ≡ kind.UnknownArgument ∷ []

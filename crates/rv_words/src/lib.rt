@@ -6,7 +6,5 @@ pub(crate) mod files;
 pub(crate) mod numbers;
 pub mod options;
 pub(crate) mod parts;
-#[cfg(test)]
-mod tests;
 
 pub use options::{Options, WordsError, words_of};

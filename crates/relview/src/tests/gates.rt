@@ -186,7 +186,7 @@ fn two_sessions_go_on_at_once_and_print_what_the_history_says(rt: HostRuntime) -
     Ok(())
 }
 
-/// A random function on 4096 elements; composing it with itself is heavy enough to fork.
+/// A random function on 4096 elements; transposing it is heavy enough to fork.
 fn heavy_relation(alloc: Global) -> Result<String, AllocError> {
     let mut text = String::new(alloc);
     text.push_str("REL A 4096 4096 {1:1")?;
@@ -206,7 +206,7 @@ fn heavy_relation(alloc: Global) -> Result<String, AllocError> {
 fn two_workers_of_a_session_are_at_work_at_once(rt: HostRuntime) -> Result<(), Fail> {
     let alloc = rt.alloc();
     let mut script = heavy_relation(alloc)?;
-    script.push_str(" COUNT A*A.")?;
+    script.push_str(" COUNT A^.")?;
     let files = [("a.rv", script.as_str().as_bytes())];
     'times: for _ in 0..TIMES {
         let gate = Holding::new(0, 1, BEGUN + ENDED);
@@ -281,7 +281,7 @@ fn no_session_of_a_later_batch_begins_before_all_of_the_first_have_ended(
     Ok(())
 }
 
-/// Holds the first piece of a composition until session 3 has ended; session 3 begins once the piece has.
+/// Holds the first piece of a transposition until session 3 has ended; session 3 begins once the piece has.
 #[derive(Drop)]
 struct Crossing {
     begun: AtomicBool,
@@ -343,7 +343,7 @@ fn versions_are_counted_through_the_batches(rt: HostRuntime) -> Result<(), Fail>
         ("a.rv", script.as_str().as_bytes()),
         (
             "b.rv",
-            b"ATOMIC LET B = A*A COMMIT. ATOMIC LET B = A COMMIT.",
+            b"ATOMIC LET B = A^ COMMIT. ATOMIC LET B = A COMMIT.",
         ),
         ("c.rv", b"REL A 1 1 {}."),
     ];

@@ -1,5 +1,6 @@
-use Rattle.std.proofs.Common.{◌∙◌, map, sym, subst, arith}
+use Rattle.std.proofs.Common.{◌∙◌, ap, map, sym, subst, arith}
 use Rattle.rel_model.specs.Trees.{bottom_height}
+use Rattle.rel_model.specs.Quads.{Keeper}
 use Rattle.fork_quads.specs.Crew.{worker_of}
 use Rattle.run_model.specs.Versions.{noted}
 use Rattle.run_model.specs.Carried.{First}
@@ -12,6 +13,9 @@ use Rattle.relview.proofs.over_table.run_over_table.Goals as goal
 pub run_batch-requires-clause-stand : goal.run_batch-requires-clause-stand
 run_batch-requires-clause-stand g c κs within =
     subst (λ w. AllNamesStand (worker_of w) c.args.names) (sym (c.new-works.ensures ∙ c.new-crew.ensures)) (named_stand c.args.table c.args.seat c.args.names c.requires.stand)
+
+pub run_batch-requires-clause-misses : goal.run_batch-requires-clause-misses
+run_batch-requires-clause-misses g c κs within = ap (λ (w : Keeper). w.misses) (c.new-works.ensures ∙ c.new-crew.ensures) ∙ c.requires.none_refused
 
 pub close-requires-clause-of : goal.close-requires-clause-of
 unfolding bottom_height
