@@ -12,7 +12,7 @@ ghost use Rattle.bench_products.specs.Holding.{Holds, Made};
 
 use pair_table::{Missed, PairTable};
 use quad_nodes::{Nodes, side_of_height};
-use rel_compose::{compose_by_quarters, compose_quads};
+use rel_compose::{compose_quads, compose_up_to};
 use rel_model::Quad;
 use std::alloc::Global;
 use std::io;
@@ -132,7 +132,7 @@ fn product_of(nodes: &mut Nodes, way: Way, a: Quad, b: Quad) -> u32
 {
     match way {
         Way::Rows => name_of(compose_quads(nodes, a, b)),
-        Way::Quarters => name_of(compose_by_quarters(nodes, a, b)),
+        Way::Quarters => name_of(compose_up_to(nodes, a, b, 0)),
     }
 }
 

@@ -2,6 +2,10 @@
 #![tactic(auto)]
 
 #[cfg(test)]
+mod listing;
+#[cfg(test)]
+mod made;
+#[cfg(test)]
 mod slow;
 #[cfg(test)]
 mod tests;

@@ -1,60 +1,18 @@
 //! Each call over relations in a node table, compared with what their lists of pairs say.
 #![tactic(auto, using(crate::proofs::Later::rel_later, crate::proofs::Later::given_stands))]
 
-ghost use Rattle.std.specs.Prelude.{◌≡◌, ◌≤◌, IfOk};
+ghost use Rattle.std.specs.Prelude.{◌≤◌, IfOk};
 ghost use Rattle.rel_model.specs.Relation.{size_limit};
 ghost use Rattle.rel_model.specs.Worker.{Stands, Keeps};
 
+use crate::made::{of_pairs, walked};
 use crate::slow::{behind, cols_of, has_two_in_a_row, put, rows_of, vector};
 use crate::trial::{Trial, on_a_crew};
 use rel_choice::{atom, count, dom, init, next, next_pair, point, ran, unival};
-use rel_model::core_trait::Core;
 use rel_model::quads_trait::Quads;
 use rel_model::{Lack, Rel, Shape};
 use std::alloc::Global;
 use std::process::Abort;
-
-/// The relation of some pairs, added one after another.
-fn of_pairs<Q: Quads>(rt: &impl Abort, q: &mut Q, shape: Shape, pairs: &[(u32, u32)]) -> Rel
-    requires row { shape.rows ≤ size_limit }
-    requires col { shape.cols ≤ size_limit }
-    ensures standing { Stands (Q.worker q.new) result }
-    ensures rows { result.rows ≡ shape.rows }
-    ensures cols { result.cols ≡ shape.cols }
-    ensures keeps { Keeps (Q.worker q.old) (Q.worker q.new) }
-{
-    let Ok(mut r) = q.empty(shape) else {
-        panic!(rt; "no room")
-    };
-    'pairs: for (i, j) in pairs {
-        assert!(rt; *i < shape.rows && *j < shape.cols);
-        let Ok(pair) = q.single(shape, *i, *j) else {
-            panic!(rt; "no room")
-        };
-        let Ok(more) = q.union(r, pair) else {
-            panic!(rt; "no room")
-        };
-        r = more;
-    }
-    r
-}
-
-/// The pairs of a relation, by a walk of at most 2,000 steps.
-fn walked<Q: Quads>(rt: &impl Abort, alloc: Global, q: &mut Q, r: Rel) -> Vec<(u32, u32)>
-    requires { Stands (Q.worker q.old) r }
-    ensures { Keeps (Q.worker q.old) (Q.worker q.new) }
-{
-    let mut pairs = Vec::new(alloc);
-    let mut after = None;
-    'steps: for _ in 0..2000 {
-        let Some(pair) = next_pair(q, r, after) else {
-            break;
-        };
-        put(rt, &mut pairs, pair);
-        after = Some(pair);
-    }
-    pairs
-}
 
 /// Asserts that a relation with this shape and these pairs was answered.
 fn is_given<Q: Quads>(
@@ -201,7 +159,7 @@ fn stepped(state: u64) -> u64 {
 }
 
 /// The pairs of a grid that a generator picks, one in a given number.
-fn some_of(
+pub(crate) fn some_of(
     rt: &impl Abort,
     alloc: Global,
     shape: Shape,

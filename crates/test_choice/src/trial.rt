@@ -3,7 +3,7 @@
 
 ghost use Rattle.rel_model.specs.Views.{IsOf};
 
-use crate::tests;
+use crate::{listing, tests};
 use fork_quads::{Crew, OpenGate};
 use pair_table::{PairTable, Seat};
 use rel_model::quads_trait::Quads;
@@ -20,6 +20,8 @@ pub(crate) enum Trial {
     PseudoRandom,
     Greatest,
     OneRowAndColumn,
+    Listed,
+    ListedFarApart,
 }
 
 /// Puts a worker of quads to a trial.
@@ -32,6 +34,8 @@ fn put<Q: Quads>(rt: &impl Abort, alloc: Global, q: &mut Q, trial: Trial) {
         Trial::PseudoRandom => tests::pseudo_random(rt, alloc, q),
         Trial::Greatest => tests::greatest(rt, alloc, q),
         Trial::OneRowAndColumn => tests::one_row_and_column(rt, q),
+        Trial::Listed => listing::listed(rt, alloc, q),
+        Trial::ListedFarApart => listing::listed_far_apart(rt, alloc, q),
     }
 }
 

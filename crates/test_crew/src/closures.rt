@@ -4,7 +4,7 @@
 ghost use Rattle.std.specs.Prelude.{◌≤◌, ◌<◌};
 
 use crate::forks::{scattered, table_for};
-use crate::tests::given;
+use crate::twins::given;
 use fork_quads::{Crew, OpenGate};
 use rel_closure::{trans, trans_by_quarters};
 use rel_model::Shape;

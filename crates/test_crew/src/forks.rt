@@ -7,7 +7,8 @@ ghost use Rattle.rel_model.specs.Quads.{Keeper};
 ghost use Rattle.rel_model.specs.Worker.{Worker, Stands, Keeps};
 ghost use Rattle.fork_quads.specs.Forks.{CanGroup, DidPieces};
 
-use crate::tests::{given, with_pair};
+use crate::calling::is_symmetric;
+use crate::twins::{given, with_pair};
 use fork_quads::{Crew, Gate, Job, OpenGate, Pieces, watched};
 use pair_table::{Missed, PairTable, Seat};
 use quad_nodes::Nodes;
@@ -41,6 +42,11 @@ impl Meeting {
             ended: AtomicU32::new(0),
             gave_up: AtomicBool::new(false),
         }
+    }
+
+    /// How many pieces have begun.
+    fn begun(&self) -> u32 {
+        self.begun.load(Ordering::SeqCst)
     }
 
     /// Waits until this many pieces have begun, and gives up after a number of looks.
@@ -194,6 +200,7 @@ fn fits_together<C: Core>(rt: &impl Abort, core: &mut C) {
     let (r, s) = heavy_pair(rt, core);
     differences_fit(rt, core, r, s);
     turns_back(rt, core, r);
+    is_symmetric(rt, core, r);
     products_turn(rt, core, r, s);
 }
 
@@ -254,6 +261,52 @@ fn nothing_is_forked_with_one_worker_or_too_few_seats(rt: HostRuntime) {
         (4, 4, 0),
     ] {
         is_met(&rt, rt.alloc(), seats, workers, pieces);
+    }
+}
+
+/// Makes the result of each operator and asks for it again at once, in the other order where that makes no difference,
+/// and asserts that pieces are done for what is new alone.
+fn finds_again<C: Core>(rt: &impl Abort, core: &mut C, meeting: &Meeting) {
+    let (r, s) = heavy_pair(rt, core);
+    let both = given(rt, core.union(r, s));
+    let after = meeting.begun();
+    assert!(rt; after > 0, "a union forks");
+    let again = given(rt, core.union(s, r));
+    assert!(rt;
+        again == both && meeting.begun() == after,
+        "a union in the other order"
+    );
+    let common = given(rt, core.inter(s, r));
+    let after = meeting.begun();
+    let again = given(rt, core.inter(r, s));
+    assert!(rt;
+        again == common && meeting.begun() == after,
+        "an intersection in the other order"
+    );
+    let only = given(rt, core.diff(r, s));
+    let after = meeting.begun();
+    let again = given(rt, core.diff(r, s));
+    assert!(rt; again == only && meeting.begun() == after, "a difference");
+    let turned = given(rt, core.transpose(r));
+    let after = meeting.begun();
+    let again = given(rt, core.transpose(r));
+    assert!(rt;
+        again == turned && meeting.begun() == after,
+        "a transposition"
+    );
+    let product = given(rt, core.compose(r, s));
+    let after = meeting.begun();
+    let again = given(rt, core.compose(r, s));
+    assert!(rt; again == product && meeting.begun() == after, "a product");
+}
+
+#[test]
+fn what_a_forked_operator_made_is_found_in_either_order(rt: HostRuntime) {
+    'workers: for workers in [2, 8] {
+        let (table, seat) = table_for(&rt, rt.alloc(), 65);
+        let meeting = Meeting::new(workers);
+        let mut crew = Crew::new(&rt, &table, seat, workers, &meeting);
+        finds_again(&rt, &mut crew, &meeting);
     }
 }
 

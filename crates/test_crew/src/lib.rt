@@ -2,6 +2,8 @@
 #![tactic(auto)]
 
 #[cfg(test)]
+mod calling;
+#[cfg(test)]
 mod closures;
 #[cfg(test)]
 mod forks;
@@ -9,3 +11,5 @@ mod forks;
 mod meets;
 #[cfg(test)]
 mod tests;
+#[cfg(test)]
+mod twins;

@@ -5,7 +5,7 @@ ghost use Rattle.std.specs.Prelude.{◌≡◌, ◌≤◌, ◌<◌};
 ghost use Rattle.rel_model.specs.Worker.{Worker, Stands, Keeps};
 
 use crate::forks::{scattered, table_for};
-use crate::tests::given;
+use crate::twins::given;
 use fork_quads::{Crew, OpenGate};
 use rel_model::core_trait::Core;
 use rel_model::{Rel, Shape};

@@ -15,6 +15,8 @@ mod named;
 #[cfg(test)]
 mod operators;
 #[cfg(test)]
+mod scope;
+#[cfg(test)]
 mod scripts;
 #[cfg(test)]
 mod slow;

@@ -12,6 +12,8 @@ mod hex;
 #[cfg(test)]
 mod made;
 #[cfg(test)]
+mod parts;
+#[cfg(test)]
 mod read;
 #[cfg(test)]
 mod several;
@@ -21,6 +23,8 @@ mod several_bad;
 mod several_chance;
 #[cfg(test)]
 mod several_faults;
+#[cfg(test)]
+mod several_first;
 #[cfg(test)]
 mod several_full;
 #[cfg(test)]

@@ -1,5 +1,6 @@
 //! Atomic blocks: rows worked out by hand, and many concurrent sessions whose history is checked event by event.
-use crate::made::{Options, comes_to, run_at_once};
+use crate::expected::comes_to;
+use crate::made::{Options, run_at_once};
 use fork_quads::OpenGate;
 use run_model::event::{Act, Event};
 use std::alloc::Global;

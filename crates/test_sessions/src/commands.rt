@@ -1,5 +1,6 @@
 //! Each command with each outcome that it can have.
-use crate::made::{Options, comes_to};
+use crate::expected::comes_to;
+use crate::made::Options;
 use std::alloc::{AllocError, Global};
 use std::process::Abort;
 use std::sync::Wait;

@@ -1,6 +1,7 @@
 //! LOAD and SAVE: how each kind of bad file is reported, which of two files of one name counts, and which bytes are
 //! put.
-use crate::made::{Options, comes_to};
+use crate::expected::comes_to;
+use crate::made::Options;
 use std::alloc::{AllocError, Global};
 use std::process::Abort;
 use std::sync::Wait;

@@ -9,6 +9,8 @@ mod commands;
 #[cfg(test)]
 mod counter;
 #[cfg(test)]
+mod expected;
+#[cfg(test)]
 mod files;
 #[cfg(test)]
 mod folded;
@@ -24,5 +26,7 @@ mod racing;
 mod rows;
 #[cfg(test)]
 mod several;
+#[cfg(test)]
+mod thin;
 #[cfg(test)]
 mod turns;

@@ -1,6 +1,7 @@
 //! A file of two relations for which a small table has no room together: LOAD ALL is refused and assigns nothing, and
 //! LOAD of either of them succeeds.
-use crate::made::{Options, comes_to, run_alone};
+use crate::expected::comes_to;
+use crate::made::{Options, run_alone};
 use std::alloc::Global;
 use std::process::Abort;
 use std::sync::Wait;

@@ -1,6 +1,7 @@
 //! Runs whose pages were worked out by hand: loops and their limits, kernels of a cycle, steps of rewriting, orders and
 //! classes, names that do not exist, snapshots, and two sessions that share no name.
-use crate::made::{Options, assert_came, comes_to, run_at_once, scripts_of};
+use crate::expected::{assert_came, comes_to};
+use crate::made::{Options, run_at_once, scripts_of};
 use fork_quads::OpenGate;
 use std::alloc::Global;
 use std::process::Abort;

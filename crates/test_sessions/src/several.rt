@@ -1,6 +1,7 @@
 //! LOAD ALL and SAVE ALL: rows worked out by hand, each kind of bad file, and many sessions that load all relations of
 //! a file concurrently, whose history is checked event by event.
-use crate::made::{Came, Options, comes_to, loaded, run_at_once};
+use crate::expected::comes_to;
+use crate::made::{Came, Options, loaded, run_at_once};
 use fork_quads::OpenGate;
 use run_model::event::{Act, Event};
 use std::alloc::Global;

@@ -6,6 +6,8 @@ mod built;
 #[cfg(test)]
 mod forms;
 #[cfg(test)]
+mod recalled;
+#[cfg(test)]
 mod slow;
 #[cfg(test)]
 mod tests;

@@ -9,18 +9,17 @@ use crate::built::built;
 use crate::slow::{Op, Sizes, Which, answers, first, left_shape, right_shape};
 use crate::trial::{Trial, on_an_engine};
 use rel_model::core_trait::Core;
-use rel_model::engine_trait::Engine;
 use rel_model::{Lack, Shape};
 use rel_slices::{
-    Boole, Value, boole, complement, compose, included, is_empty, left, made_whole, right, same,
-    shape_of, syq, transpose,
+    Boole, Remembers, Value, boole, complement, compose, included, is_empty, left, made_whole,
+    right, same, shape_of, syq, transpose,
 };
 use std::alloc::Global;
 use std::process::Abort;
 use std::thread::Threads;
 
 /// The answer of an operation.
-fn answer_of<E: Engine>(
+fn answer_of<E: Remembers>(
     rt: &impl Abort,
     alloc: Global,
     engine: &mut E,
@@ -71,7 +70,7 @@ fn answer_of<E: Engine>(
 }
 
 /// Asserts that a value has exactly the pairs that the answer should have.
-fn is_answer<E: Engine>(rt: &impl Abort, engine: &mut E, op: Op, sizes: Sizes, value: &Value)
+fn is_answer<E: Remembers>(rt: &impl Abort, engine: &mut E, op: Op, sizes: Sizes, value: &Value)
     requires { ValueStands (E.worker engine.old) value.now }
 {
     let Ok(all) = made_whole(engine, value) else {
@@ -93,7 +92,7 @@ fn is_answer<E: Engine>(rt: &impl Abort, engine: &mut E, op: Op, sizes: Sizes, v
 }
 
 /// Asserts that an operation at these sizes agrees with its membership formula.
-pub(crate) fn agrees<E: Engine>(
+pub(crate) fn agrees<E: Remembers>(
     rt: &impl Abort,
     alloc: Global,
     engine: &mut E,
@@ -205,7 +204,7 @@ fn residuals_and_quotients_have_the_pairs_of_their_clauses(rt: HostRuntime) {
 
 /// Asserts which pairs the complement and the transposition of the first relation have at these sizes, and how it
 /// compares with itself and with its complement.
-pub(crate) fn one_agrees<E: Engine>(rt: &impl Abort, engine: &mut E, shape: Shape) {
+pub(crate) fn one_agrees<E: Remembers>(rt: &impl Abort, engine: &mut E, shape: Shape) {
     let x = built(rt, engine, Which::First, shape);
     let Ok(rest) = complement(engine, &x) else {
         panic!(rt; "no room")

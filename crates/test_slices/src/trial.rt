@@ -9,7 +9,7 @@ use fork_quads::{Crew, OpenGate};
 use pair_table::{PairTable, Seat};
 use rel_engine::Works;
 use rel_model::Shape;
-use rel_model::engine_trait::Engine;
+use rel_slices::Remembers;
 use std::alloc::Global;
 use std::process::Abort;
 use std::thread::Threads;
@@ -23,7 +23,7 @@ pub(crate) enum Trial {
 }
 
 /// Puts an engine through a trial.
-fn put<E: Engine>(rt: &impl Abort, alloc: Global, engine: &mut E, trial: Trial) {
+fn put<E: Remembers>(rt: &impl Abort, alloc: Global, engine: &mut E, trial: Trial) {
     match trial {
         Trial::Two(op, sizes) => tests::agrees(rt, alloc, engine, op, sizes),
         Trial::One(shape) => tests::one_agrees(rt, engine, shape),

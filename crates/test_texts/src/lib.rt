@@ -6,6 +6,8 @@ mod history;
 #[cfg(test)]
 mod made;
 #[cfg(test)]
+mod marked;
+#[cfg(test)]
 mod refusals;
 #[cfg(test)]
 mod rows;

@@ -22,7 +22,7 @@ pub(crate) fn table(rt: &impl Abort, alloc: Global) -> (PairTable, Seat)
 }
 
 /// Whether all pairs lie within the sizes.
-fn lie_within(pairs: &[(u32, u32)], shape: Shape) -> bool
+pub(crate) fn lie_within(pairs: &[(u32, u32)], shape: Shape) -> bool
     ensures { IsTrue result → AreWithin shape.rows shape.cols pairs.now }
 {
     'pairs: for pair in pairs {

@@ -26,7 +26,13 @@ fn an_injection_of_no_element_has_no_row(rt: HostRuntime) {
     let Ok(injection) = engine.inj(vector) else {
         panic!(&rt; "refused")
     };
-    match shape_text(alloc, injection) {
+    match shape_text(
+        alloc,
+        Shape {
+            rows: injection.rows,
+            cols: injection.cols,
+        },
+    ) {
         Ok(text) => are(&rt, text.as_slice(), "0 x 3\n"),
         Err(_) => panic!(&rt; "no type"),
     }
@@ -41,7 +47,13 @@ fn a_projection_of_a_product_with_an_empty_factor_is_not_onto(rt: HostRuntime) {
     let Ok(first) = engine.first(2, 0) else {
         panic!(&rt; "refused")
     };
-    match shape_text(alloc, first) {
+    match shape_text(
+        alloc,
+        Shape {
+            rows: first.rows,
+            cols: first.cols,
+        },
+    ) {
         Ok(text) => are(&rt, text.as_slice(), "0 x 2\n"),
         Err(_) => panic!(&rt; "no type"),
     }

@@ -103,7 +103,13 @@ fn is_counted<E: Engine>(
     requires { Stands (E.worker engine.old) rel }
     ensures { Keeps (E.worker engine.old) (E.worker engine.new) }
 {
-    match shape_text(alloc, rel) {
+    match shape_text(
+        alloc,
+        Shape {
+            rows: rel.rows,
+            cols: rel.cols,
+        },
+    ) {
         Ok(text) => are(rt, text.as_slice(), shape),
         Err(_) => panic!(rt; "no type"),
     }

@@ -6,8 +6,9 @@ ghost use Rattle.rel_model.specs.Worker.{Worker, Stands, Keeps};
 
 use crate::counting::Counting;
 use crate::making::numbered;
-use rel_closure::{Steps, identity, refl, trans, trans_counted};
+use rel_closure::{identity, refl, trans, trans_counted};
 use rel_model::core_trait::Core;
+use rel_model::counter::Steps;
 use rel_model::{Lack, Rel, Shape};
 use rel_plain::Plain;
 use rel_residual::{left, right, syq};

@@ -72,7 +72,7 @@ fn related<E: Remembers>(
 }
 
 /// A relation as a value: in the form of its sizes, or whole even if it is thin.
-fn built<E: Remembers>(
+pub(crate) fn built<E: Remembers>(
     rt: &impl Abort,
     alloc: Global,
     engine: &mut E,

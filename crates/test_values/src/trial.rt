@@ -4,7 +4,7 @@
 ghost use Rattle.rel_model.specs.Views.{IsOf};
 
 use crate::slow::{Op, Sizes};
-use crate::{remembered, tests};
+use crate::{counts, remembered, tests};
 use fork_quads::{Crew, OpenGate};
 use pair_table::{PairTable, Seat};
 use rel_engine::Works;
@@ -14,11 +14,12 @@ use std::alloc::Global;
 use std::process::Abort;
 use std::thread::Threads;
 
-/// A trial: an operation at some sizes, the tests of two values, a pairing that is too wide, or what the engine
-/// remembers.
+/// A trial: an operation at some sizes, the tests of two values, their counts, a pairing that is too wide, or what the
+/// engine remembers.
 pub(crate) enum Trial {
     Operation(Op, Sizes),
     Tests(Shape),
+    Counts(Shape),
     TooWide,
     Remembers,
 }
@@ -28,6 +29,7 @@ fn put<E: Remembers>(rt: &impl Abort, alloc: Global, engine: &mut E, trial: Tria
     match trial {
         Trial::Operation(op, sizes) => tests::in_each_form(rt, alloc, engine, op, sizes),
         Trial::Tests(shape) => tests::tests_agree(rt, alloc, engine, shape),
+        Trial::Counts(shape) => counts::are_counted(rt, alloc, engine, shape),
         Trial::TooWide => tests::is_too_wide(rt, engine),
         Trial::Remembers => remembered::are_told_apart(rt, alloc, engine),
     }
