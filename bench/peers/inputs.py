@@ -19,6 +19,12 @@ def steps(size, each, seed, later=False):
     return Relation(size, size, pairs)
 
 
+def tree(size, seed):
+    """A tree: each element but the first has a parent by chance among those before it."""
+    lot = random.Random(seed)
+    return Relation(size, size, {(lot.randrange(x), x) for x in range(1, size)})
+
+
 def sparse(size, chance, seed):
     """Each pair with about this chance."""
     return edges(size, int(size * size * chance), seed)

@@ -5,7 +5,7 @@ or diagrams would not fit, or where it has no way to do the work.
 """
 from dataclasses import dataclass
 
-from inputs import both_ways, cycle, edges, families, graph, grid, sparse, steps, thin, votes
+from inputs import both_ways, cycle, edges, families, graph, grid, sparse, steps, thin, tree, votes
 
 KERNELS = """KERNELS(G) DECL e, breaks BEG e = epsi(Ln1(G)); breaks = (e & G*e) | -(e | G*e); RETURN -ran(breaks) END.
 COUNT KERNELS(R)."""
@@ -67,9 +67,15 @@ def of_relations():
         yield Work("closure", f"random, {size}, 2 a row", closure, ((steps, size, 2, 1),))
     for size in (1024, 4096):
         yield Work("closure", f"acyclic, {size}, 2 a row", closure, ((steps, size, 2, 1, True),))
+    yield Work("closure", "acyclic, 16384, 2 a row", closure, ((steps, 16384, 2, 1, True),), ("graphblas",))
     yield Work("closure", "a cycle of 4096", closure, ((cycle, 4096),))
+    for size in (4096, 100_000):
+        yield Work("closure", f"a tree of {size}", closure, ((tree, size, 1),), ("graphblas",))
     for size, each in ((1024, 8), (4096, 8), (16384, 2)):
         yield Work("product", f"{size}, {each} a row", product, ((steps, size, each, 1), (steps, size, each, 2)))
+    for size, each in ((65536, 2), (65536, 8), (2**19, 1)):
+        relations = ((steps, size, each, 1), (steps, size, each, 2))
+        yield Work("product", f"{size}, {each} a row", product, relations, ("graphblas",))
     quotient = "LET C = trans(R). COUNT syq(C, C)."
     yield Work("quotient", "of the closure of random 1024", quotient, ((steps, 1024, 2, 1),))
     for chance in (0.001, 0.01, 0.1):
