@@ -32,6 +32,15 @@ in_quarter : (least d i j a b x y : ℕ) → half (2 ^ (least + d)) i ≡ a → 
     → place least (suc d) i j ≡ (2 * a + b) * 4 ^ (least + d) + place least d x y
 in_quarter least d i j a b x y p q r s = rw (p, q, r, s) refl
 
+-- one height more: the quarter, and the place in it
+pub place_step : (least depth i j : ℕ) → depth ≢ 0 → place least depth i j
+    ≡ (2 * half (2 ^ (least + (depth - 1))) i + half (2 ^ (least + (depth - 1))) j) * 4 ^ (least + (depth - 1))
+    + place least (depth - 1) (within_half (2 ^ (least + (depth - 1))) i) (within_half (2 ^ (least + (depth - 1))) j)
+place_step least zero i j n = absurd (n refl)
+place_step least (suc d) i j n =
+    let e : d ≡ suc d - 1 = omega arith in
+    subst (λ k. place least (suc d) i j ≡ (2 * half (2 ^ (least + k)) i + half (2 ^ (least + k)) j) * 4 ^ (least + k) + place least k (within_half (2 ^ (least + k)) i) (within_half (2 ^ (least + k)) j)) e refl
+
 -- ---- bounds
 pub squared : (least : ℕ) → 4 ^ least ≡ 2 ^ least * 2 ^ least
 squared least = mul-pow 2 2 least

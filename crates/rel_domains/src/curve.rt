@@ -1,16 +1,28 @@
 //! Places on the Z-curve (Morton order).
-ghost use Rattle.std.specs.Prelude.{◌≡◌, ◌<◌, ◌≤◌, ◌+◌, ◌^◌, map, length, IfOk, OnErr};
+ghost use Rattle.std.specs.Prelude.{◌≡◌, ◌<◌, ◌≤◌, ◌+◌, ◌*◌, ◌^◌, map, length, IfOk, OnErr};
 ghost use Rattle.std.specs.List.{AllByRecursion};
 ghost use Rattle.rel_model.specs.Trees.{top_height};
 ghost use Rattle.rel_model.specs.Listed.{AreWithin};
-ghost use Rattle.rel_domains.specs.Curve.{place};
+ghost use Rattle.rel_domains.specs.Curve.{half, within_half, place};
 
 use crate::heights::cells_of;
 use rel_model::empty::side_of;
 use std::alloc::{AllocError, Global};
 
+/// Which half of `2 * side` numbers one lies in, and its place there. There is no branch for the processor to guess.
+#[inline(always)]
+fn halved(side: u32, i: u32) -> (u64, u32)
+    requires { i < 2 * side }
+    ensures half { result.0 ≡ half side i }
+    ensures within { result.1 ≡ within_half side i }
+    ensures small { result.1 < side }
+    ensures two { result.0 < 2 }
+{
+    if i < side { (0, i) } else { (1, i - side) }
+}
+
 /// The place of a cell in a square `depth` heights above leaves of a height.
-#[tactic(auto, unfolding(rel_model::specs::Trees::top_height), using(crate::proofs::Places::side_step, crate::proofs::Places::cells_step, crate::proofs::Places::place_lt))]
+#[tactic(auto, unfolding(rel_model::specs::Trees::top_height), using(crate::proofs::Places::side_step, crate::proofs::Places::cells_step, crate::proofs::Places::place_lt, crate::proofs::Places::place_step))]
 fn place_of(least: u8, depth: u8, i: u32, j: u32) -> u64
     requires high { least + depth ≤ top_height }
     requires row { i < 2 ^ (least + depth) }
@@ -23,18 +35,9 @@ fn place_of(least: u8, depth: u8, i: u32, j: u32) -> u64
     }
     let below = least + (depth - 1);
     let side = side_of(below);
-    let part = cells_of(below);
-    if i < side {
-        if j < side {
-            place_of(least, depth - 1, i, j)
-        } else {
-            part + place_of(least, depth - 1, i, j - side)
-        }
-    } else if j < side {
-        2 * part + place_of(least, depth - 1, i - side, j)
-    } else {
-        3 * part + place_of(least, depth - 1, i - side, j - side)
-    }
+    let (south, row) = halved(side, i);
+    let (east, col) = halved(side, j);
+    (2 * south + east) * cells_of(below) + place_of(least, depth - 1, row, col)
 }
 
 /// The places of a list of pairs.
