@@ -6,7 +6,7 @@ ghost use Rattle.rel_model.specs.Worker.{Stands, set_of, Gives, Keeps, MakesAtMo
 use crate::paying::pays_to_close;
 use crate::reaching::close;
 use rel_domains::from_pairs_or_none;
-use rel_listing::pairs_of;
+use rel_listing::pairs_within;
 use rel_model::quads_trait::Quads;
 use rel_model::{Lack, Rel, Shape};
 use std::alloc::Global;
@@ -26,10 +26,10 @@ pub fn close_by_lists<Q: Quads>(alloc: Global, q: &mut Q, r: Rel) -> Result<Opti
     ensures room { MakesAtMost (derived_room r.rows r.rows r.rows) (Q.worker q.old) (Q.worker q.new) }
     ensures cause { HasCause Q.lean (Q.worker q.old) (Q.worker q.new) result }
 {
-    if !pays_to_close(q, r) {
+    let Some(most) = pays_to_close(q, r) else {
         return Ok(None);
-    }
-    let Ok(pairs) = pairs_of(alloc, q, r) else {
+    };
+    let Some(pairs) = pairs_within(alloc, q, r, most) else {
         return Ok(None);
     };
     let Some(closed) = close(alloc, r.rows, &pairs) else {

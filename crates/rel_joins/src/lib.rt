@@ -2,7 +2,6 @@
 #![tactic(auto)]
 
 mod closure;
-mod counting;
 mod index;
 mod joining;
 mod paying;
@@ -11,4 +10,5 @@ mod reaching;
 mod sampling;
 
 pub use closure::close_by_lists;
+pub use paying::scattered_pairs;
 pub use product::compose_by_lists;

@@ -1,9 +1,8 @@
 //! Whether lists pay. No result depends on it.
-ghost use Rattle.std.specs.Prelude.{◌≡◌, ◌<◌, true};
+ghost use Rattle.std.specs.Prelude.{◌<◌, IfSome};
 ghost use Rattle.rel_model.specs.Worker.{Stands, HasQuad};
 ghost use Rattle.rel_steps.specs.Reading.{OnlyReads};
 
-use crate::counting::left_of;
 use crate::sampling::sampled;
 use rel_model::quads_trait::Quads;
 use rel_model::{Quad, Rel};
@@ -38,16 +37,27 @@ fn estimate<Q: Quads>(q: &mut Q, quad: Quad) -> u64
     if met.is_scattered() { met.pairs() } else { 0 }
 }
 
-/// Whether a quad has not many more pairs than was estimated.
-fn is_within<Q: Quads>(q: &mut Q, quad: Quad, pairs: u64) -> bool
-    requires stands { HasQuad (Q.worker q.old) quad }
+/// How many pairs a large scattered relation may have, by a sample: most of its quads are distinct, so a list of its
+/// pairs serves better than what is remembered of quads. `None`: it is no such relation.
+pub fn scattered_pairs<Q: Quads>(q: &mut Q, r: Rel) -> Option<u64>
+    requires stands { Stands (Q.worker q.old) r }
     ensures reads { OnlyReads (Q.worker q.old) (Q.worker q.new) }
 {
-    let most = pairs
-        .saturating_mul(2)
-        .saturating_add(1000)
-        .min(MOST_LISTED);
-    left_of(q, quad, most as u32) > 0
+    if r.rows <= SMALL && r.cols <= SMALL {
+        return None;
+    }
+    let root = q.root(r);
+    let pairs = estimate(q, root);
+    if pairs == 0 {
+        return None;
+    }
+    Some(pairs)
+}
+
+/// How many pairs are listed at most where so many were estimated.
+fn listed_at_most(pairs: u64) -> usize {
+    let most = pairs.saturating_mul(2).saturating_add(1000);
+    most.min(MOST_LISTED) as usize
 }
 
 /// Whether operands with so many pairs have a sparse product that takes few steps to join.
@@ -65,27 +75,28 @@ fn is_sparse(rows: u32, middle: u32, cols: u32, lefts: u64, rights: u64) -> bool
     joined <= MOST_LISTED && joined <= cells / SPARSE
 }
 
-/// Whether composition by lists pays: both relations are large, scattered and thin, and so is the product.
-pub(crate) fn pays<Q: Quads>(q: &mut Q, r: Rel, s: Rel) -> bool
+/// How many pairs of both relations are listed at most, if composition by lists pays: both are large, scattered and
+/// thin, and so is the product.
+pub(crate) fn pays<Q: Quads>(q: &mut Q, r: Rel, s: Rel) -> Option<(usize, usize)>
     requires left { Stands (Q.worker q.old) r }
     requires right { Stands (Q.worker q.old) s }
-    ensures large { result ≡ true → 256 < r.rows }
+    ensures large { IfSome result (λ _. 256 < r.rows) }
     ensures reads { OnlyReads (Q.worker q.old) (Q.worker q.new) }
 {
     if r.rows <= SMALL || r.cols <= SMALL || s.cols <= SMALL {
-        return false;
+        return None;
     }
     let left = q.root(r);
     let right = q.root(s);
     let lefts = estimate(q, left);
     if lefts == 0 {
-        return false;
+        return None;
     }
     let rights = estimate(q, right);
     if !is_sparse(r.rows, r.cols, s.cols, lefts, rights) {
-        return false;
+        return None;
     }
-    is_within(q, left, lefts) && is_within(q, right, rights)
+    Some((listed_at_most(lefts), listed_at_most(rights)))
 }
 
 /// Whether so many pairs in the first rows of a closure of `n` elements are few enough for lists: no more than one cell
@@ -98,18 +109,22 @@ pub(crate) fn is_sparse_so_far(n: u32, rows: u32, pairs: usize) -> bool {
             .saturating_add(cells / SPARSE)
 }
 
-/// Whether the transitive closure by lists pays: the relation is large, scattered and thin.
-pub(crate) fn pays_to_close<Q: Quads>(q: &mut Q, r: Rel) -> bool
+/// How many pairs of a relation are listed at most, if its transitive closure by lists pays: the relation is large,
+/// scattered and thin.
+pub(crate) fn pays_to_close<Q: Quads>(q: &mut Q, r: Rel) -> Option<usize>
     requires stands { Stands (Q.worker q.old) r }
-    ensures large { result ≡ true → 256 < r.rows }
+    ensures large { IfSome result (λ _. 256 < r.rows) }
     ensures reads { OnlyReads (Q.worker q.old) (Q.worker q.new) }
 {
     if r.rows <= SMALL {
-        return false;
+        return None;
     }
     let root = q.root(r);
     let pairs = estimate(q, root);
     let least = u64::from(r.rows) / ROWS_A_PAIR;
     let most = u64::from(r.rows).saturating_mul(THIN).min(MOST_LISTED);
-    pairs > 0 && pairs >= least && pairs <= most && is_within(q, root, pairs)
+    if pairs == 0 || pairs < least || pairs > most {
+        return None;
+    }
+    Some(listed_at_most(pairs))
 }

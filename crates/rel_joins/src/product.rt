@@ -6,7 +6,7 @@ ghost use Rattle.rel_model.specs.Worker.{Stands, set_of, Gives, Keeps, MakesAtMo
 use crate::joining::join;
 use crate::paying::pays;
 use rel_domains::from_pairs_or_none;
-use rel_listing::pairs_of;
+use rel_listing::pairs_within;
 use rel_model::quads_trait::Quads;
 use rel_model::{Lack, Rel, Shape};
 use std::alloc::Global;
@@ -32,13 +32,13 @@ pub fn compose_by_lists<Q: Quads>(
     ensures room { MakesAtMost (product_room r.rows r.cols s.cols) (Q.worker q.old) (Q.worker q.new) }
     ensures cause { HasCause Q.lean (Q.worker q.old) (Q.worker q.new) result }
 {
-    if !pays(q, r, s) {
-        return Ok(None);
-    }
-    let Ok(left) = pairs_of(alloc, q, r) else {
+    let Some((lefts, rights)) = pays(q, r, s) else {
         return Ok(None);
     };
-    let Ok(right) = pairs_of(alloc, q, s) else {
+    let Some(left) = pairs_within(alloc, q, r, lefts) else {
+        return Ok(None);
+    };
+    let Some(right) = pairs_within(alloc, q, s, rights) else {
         return Ok(None);
     };
     let Some(joined) = join(alloc, r.cols, &left, &right) else {

@@ -47,7 +47,7 @@ fn push_quarters<Q: Quads>(
         upper.old.items upper.new.items lower.old.items lower.new.items) }
     ensures reads { OnlyReads (Q.worker q.old) (Q.worker q.new) }
 {
-    let Quarters { nw, ne, sw, se } = q.quarters_ahead(quad);
+    let Quarters { nw, ne, sw, se } = q.quarters(quad);
     let east = column + side_of(nw.height);
     push_quad(upper, nw, column)?;
     push_quad(upper, ne, east)?;

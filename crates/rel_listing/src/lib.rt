@@ -6,4 +6,4 @@ mod listing;
 mod rows;
 mod words;
 
-pub use listing::pairs_of;
+pub use listing::{pairs_of, pairs_within};

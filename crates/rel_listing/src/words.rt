@@ -25,3 +25,12 @@ pub(crate) fn words_of<Q: Quads>(
     }
     Ok(words)
 }
+
+/// How many cells the words of a strip have.
+pub(crate) fn cells_of(words: &[(u64, u32)]) -> usize {
+    let mut cells: usize = 0;
+    'words: for (bits, _) in words {
+        cells = cells.saturating_add(bits.count_ones() as usize);
+    }
+    cells
+}

@@ -8,15 +8,15 @@ use Rattle.rel_model.proofs.Workers.{keeps_set}
 use Rattle.rel_joins.specs.Reaches.{AreClosed}
 use Rattle.rel_joins.proofs.Closed.{closed_within, closed_given, closed_same, closed_room}
 use Rattle.rel_joins.proofs.closure.close_by_lists.Given.{Over}
-use Rattle.rel_joins.proofs.closure.close_by_lists.Goals.{In-Some}
+use Rattle.rel_joins.proofs.closure.close_by_lists.Goals.{In-Some-close}
 use Rattle.rel_joins.proofs.closure.close_by_lists.Goals as goal
 
 -- the operand has its type, and the list has the pairs of its closure
-record Done (g : Over) (c : In-Some g) (xs : List (ℕ × ℕ)) : Type 0 where
+record Done (g : Over) (c : In-Some-close g) (xs : List (ℕ × ℕ)) : Type 0 where
   is : HasType c.args.r.rows c.args.r.rows (set_of (g.Q.Core.worker c.args.q.now) c.args.r)
   closed : AreClosed c.args.r.rows (set_of (g.Q.Core.worker c.args.q.now) c.args.r).pairs xs
 
-done : (g : Over) (c : In-Some g) (xs : List (ℕ × ℕ)) → xs ≡ c.in-Some.closed.items → Done g c xs
+done : (g : Over) (c : In-Some-close g) (xs : List (ℕ × ℕ)) → xs ≡ c.in-Some-close.closed.items → Done g c xs
 done g c xs e =
     let core = g.met.Q.Core in
     let q = c.args.q.now in
@@ -25,13 +25,13 @@ done g c xs e =
     let v = g.Q.Core.worker c.pays_to_close.new.q in
     record {
       is = record { valid = core.valid q r c.requires.standing; row_size = core.row_size q r c.requires.standing; col_size = core.col_size q r c.requires.standing ∙ sym c.requires.square };
-      closed = closed_same r.rows (c.deref.ensures.value ∙ c.in-Ok.ensures.value ∙ ap (λ (x : Relation). x.pairs) (keeps_set u v r c.pays_to_close.ensures.reads.keeps c.requires.standing)) e c.in-Some.ensures.closed;
+      closed = closed_same r.rows (c.deref.ensures.value ∙ c.in-Some-pairs_within.ensures.value ∙ ap (λ (x : Relation). x.pairs) (keeps_set u v r c.pays_to_close.ensures.reads.keeps c.requires.standing)) e c.in-Some-close.ensures.closed;
     }
 
 pub from_pairs_or_none-requires-clause-within : goal.from_pairs_or_none-requires-clause-within
 from_pairs_or_none-requires-clause-within g c =
     let a = c.args in
-    let d = done g (goal.at.from_pairs_or_none-requires-clause-within g c).In-Some c.deref-2.result.now c.deref-2.ensures.value in
+    let d = done g (goal.at.from_pairs_or_none-requires-clause-within g c).In-Some-close c.deref-2.result.now c.deref-2.ensures.value in
     subst (λ (n : ℕ). AreWithin a.r.rows n c.deref-2.result.now) c.requires.square
     (closed_within a.r.rows (set_of (g.Q.Core.worker a.q.now) a.r) c.deref-2.result.now d.is d.closed)
 
@@ -39,14 +39,14 @@ pub returns-clause-value : goal.returns-clause-value
 returns-clause-value g c =
     let a = c.args in
     let u = g.Q.Core.worker a.q.now in
-    let d = done g (goal.at.returns-clause-value g c).In-Some c.deref-2.result.now c.deref-2.ensures.value in
+    let d = done g (goal.at.returns-clause-value g c).In-Some-close c.deref-2.result.now c.deref-2.ensures.value in
     subst (λ (x : Relation). IfOk c.from_pairs_or_none.result (λ given. IfSome given (Gives (g.Q.Core.worker c.from_pairs_or_none.new.q) a.r.rows a.r.cols x)))
     (closed_given a.r.rows a.r.cols (set_of u a.r) c.deref-2.result.now c.requires.square d.is d.closed) c.from_pairs_or_none.ensures.value
 
 pub returns-clause-room : goal.returns-clause-room
 returns-clause-room g c =
     let a = c.args in
-    let few = c.in-Some.ensures.few in
+    let few = c.in-Some-close.ensures.few in
     let size = ap length c.deref-2.ensures.value in
-    let room = closed_room (length c.deref-2.result.now) g.Q.Core.least a.r.rows a.r.cols (omega (arith, few, size)) (c.pays_to_close.ensures.large c.if-not-pays_to_close.false) (g.met.Q.Core.row_limit a.q.now a.r c.requires.standing) g.met.Q.Quads.least_limit c.requires.square in
-    omega (arith, room, c.pays_to_close.ensures.reads.room, c.in-Ok.ensures.room, c.from_pairs_or_none.ensures.few)
+    let room = closed_room (length c.deref-2.result.now) g.Q.Core.least a.r.rows a.r.cols (omega (arith, few, size)) c.in-Some.ensures.large (g.met.Q.Core.row_limit a.q.now a.r c.requires.standing) g.met.Q.Quads.least_limit c.requires.square in
+    omega (arith, room, c.pays_to_close.ensures.reads.room, c.in-Some-pairs_within.ensures.reads.room, c.from_pairs_or_none.ensures.few)

@@ -4,4 +4,4 @@ use Rattle.rel_listing.proofs.halving.push_quarters.Goals as goal
 
 pub side_of-requires : goal.side_of-requires
 unfolding top_height
-side_of-requires g c = let h = g.met.Q.Quads.high_height c.quarters_ahead.new.self c.quarters_ahead.result.nw c.quarters_ahead.ensures.quarters.nw in omega (arith, h)
+side_of-requires g c = let h = g.met.Q.Quads.high_height c.quarters.new.self c.quarters.result.nw c.quarters.ensures.quarters.nw in omega (arith, h)

@@ -29,8 +29,8 @@ list_strip-requires g t c κs within =
 pub side_of-requires-2 : goal.side_of-requires-2
 side_of-requires-2 g t c = let l = low_enough c.args.height c.args.row c.requires.rows in omega (arith, l)
 
-pub overflow_add-row : goal.overflow_add-row
-overflow_add-row g t c =
+pub overflow_add-middle : goal.overflow_add-middle
+overflow_add-middle g t c =
     let o = over_leaf c.args.height c.bottom.result g.Q.Core.least c.if-height-bottom.false c.bottom.ensures c.requires.low in
     let r = half_rows c.args.height c.args.row (omega (arith, o)) c.requires.rows in
     omega (arith, r, c.side_of-2.ensures)
