@@ -1,4 +1,4 @@
-//! The lines and pairs that an engine remembers.
+//! The lines, pairs and transpositions that an engine remembers.
 use crate::works::Works;
 use fork_quads::Gate;
 use rel_model::Rel;
@@ -35,5 +35,17 @@ impl<'t, R: Threads + Sync, G: Gate + Sync> Remembers for Works<'t, R, G> {
     fn is_worth_listing(&mut self, r: Rel) -> bool {
         let _ = &self.crew;
         self.remembered.is_worth_listing(r)
+    }
+
+    /// The transposition of a relation, if it is remembered.
+    fn transposed(&self, r: Rel) -> Option<Rel> {
+        let _ = &self.crew;
+        self.remembered.transposed(r)
+    }
+
+    /// Remembers the transposition of a relation.
+    fn note_transposed(&mut self, r: Rel, transposed: Rel) {
+        let _ = &self.crew;
+        self.remembered.note_transposed(r, transposed);
     }
 }

@@ -10,8 +10,9 @@ use rel_slices::Remembered;
 use std::marker::Model;
 use std::thread::Threads;
 
-/// A worker over a node table that does all operations of the language, and remembers the lines of some thin relations
-/// and the pairs of at most one relation. Some 8 KB, nearly all of it for the lines, and 8 bytes for each pair.
+/// A worker over a node table that does all operations of the language, and remembers the lines of some thin relations,
+/// the pairs of at most four relations, and some transpositions. Some 8 KB, nearly all of it for the lines, and 8 bytes
+/// for each pair.
 #[derive(Drop)]
 pub struct Works<'t, R: Threads + Sync, G: Gate + Sync> {
     pub(crate) crew: Crew<'t, R, G>,

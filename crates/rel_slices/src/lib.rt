@@ -20,6 +20,7 @@ mod residuals;
 mod sparse;
 pub mod thin;
 mod through;
+mod turnings;
 mod univalent;
 mod values;
 mod vectors;

@@ -1,10 +1,12 @@
-//! Remembers the lines of relations, so that a named relation is cut into lines only once, and the pairs of a few.
+//! Remembers the lines of relations, so that a named relation is cut into lines only once, and the pairs and the
+//! transpositions of a few.
 ghost use Rattle.std.specs.Prelude.{◌≡◌, ◌≤◌, ◌^◌, IfSome};
 ghost use Rattle.rel_model.specs.Worker.{Worker, Stands, set_of};
-ghost use Rattle.rel_slices.specs.Remembering.{AreLinesOf, AllTrue, pairs_kept};
+ghost use Rattle.rel_slices.specs.Remembering.{AreLinesOf, IsTransposeOf, AllTrue, pairs_kept};
 
 use crate::listings::Listings;
 use crate::thin::Thin;
+use crate::turnings::Turnings;
 use crate::walks::Walks;
 use rel_model::Rel;
 use rel_model::engine_trait::Engine;
@@ -19,7 +21,8 @@ pub struct Entry {
     pub lines: Thin,
 }
 
-/// The lines of the `REMEMBERED` relations that were noted last, and the pairs of a few that were walked several times.
+/// The lines of the `REMEMBERED` relations that were noted last, the pairs of a few that were walked several times, and
+/// the transpositions of a few.
 /// Beyond the pairs it takes some 8 KB.
 #[derive(Drop)]
 pub struct Remembered {
@@ -27,6 +30,7 @@ pub struct Remembered {
     entries: [Option<Entry>; REMEMBERED as usize],
     listings: Listings,
     walks: Walks,
+    turnings: Turnings,
 }
 
 impl Remembered {
@@ -39,6 +43,7 @@ impl Remembered {
             entries: [None; REMEMBERED as usize],
             listings: Listings::none(),
             walks: Walks::none(),
+            turnings: Turnings::none(),
         }
     }
 
@@ -94,9 +99,24 @@ impl Remembered {
         let walks = self.walks.note(r);
         walks > 1 && walks.is_power_of_two()
     }
+
+    /// The transposition of a relation, if it is remembered.
+    pub fn transposed(&self, r: Rel) -> Option<Rel>
+        ensures { (w : Worker) → AllTrue w self.now → IfSome result (IsTransposeOf w r) }
+    {
+        self.turnings.transposed(r)
+    }
+
+    /// Remembers the transposition of a relation.
+    pub fn note_transposed(&mut self, rel: Rel, transposed: Rel)
+        ensures { (w : Worker) → AllTrue w self.old → Stands w rel → IsTransposeOf w rel transposed
+            → AllTrue w self.new }
+    {
+        self.turnings.note(rel, transposed);
+    }
 }
 
-/// An engine that may remember the lines, or the pairs, of relations that stand in it.
+/// An engine that may remember the lines, the pairs, or the transpositions of relations that stand in it.
 pub trait Remembers: Engine {
     /// The lines of a relation, if they are remembered.
     fn lines_of(&self, r: Rel) -> Option<Thin>
@@ -123,5 +143,16 @@ pub trait Remembers: Engine {
 
     /// Notes that a relation was walked, and tells whether its pairs are now worth a list. Nothing is promised.
     fn is_worth_listing(&mut self, r: Rel) -> bool
+        ensures same { Self.worker self.new ≡ Self.worker self.old };
+
+    /// The transposition of a relation, if it is remembered.
+    fn transposed(&self, r: Rel) -> Option<Rel>
+        requires standing { Stands (Self.worker self.now) r }
+        ensures transposed { IfSome result (IsTransposeOf (Self.worker self.now) r) };
+
+    /// Notes the transposition of a relation. It does not promise to remember it, nor for how long.
+    fn note_transposed(&mut self, r: Rel, transposed: Rel)
+        requires standing { Stands (Self.worker self.old) r }
+        requires means { IsTransposeOf (Self.worker self.old) r transposed }
         ensures same { Self.worker self.new ≡ Self.worker self.old };
 }

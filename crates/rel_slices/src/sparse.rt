@@ -7,26 +7,15 @@ ghost use Rattle.rel_steps.specs.Reading.{OnlyReads};
 
 use crate::recall::Remembers;
 use rel_images::{image, image_of_pairs};
-use rel_listing::pairs_of;
+use rel_listing::pairs_within;
 use rel_model::{Lack, Rel};
 use std::alloc::Global;
 
 /// Pairs are kept if they are at most this many, which take 32 MB.
-const MOST_PAIRS: u64 = 1 << 22;
+const MOST_PAIRS: usize = 1 << 22;
 
-/// Lists the pairs of a relation, and keeps them. Without memory for the list it goes on.
-fn list_pairs<C: Remembers>(alloc: Global, core: &mut C, r: Rel)
-    requires { Stands (C.worker core.old) r }
-    ensures { OnlyReads (C.worker core.old) (C.worker core.new) }
-{
-    match pairs_of(alloc, core, r) {
-        Ok(pairs) => core.keep_listing(r, pairs),
-        Err(_) => {}
-    }
-}
-
-/// Lists the pairs of a relation that was walked, and keeps them, if it was walked several times lately and they are
-/// not too many.
+/// Lists the pairs of a relation that was walked, and keeps them, if it was walked several times lately, they are not
+/// too many, and there is memory for the list.
 fn note_walk<C: Remembers>(alloc: Global, core: &mut C, r: Rel)
     requires { Stands (C.worker core.old) r }
     ensures { OnlyReads (C.worker core.old) (C.worker core.new) }
@@ -34,13 +23,9 @@ fn note_walk<C: Remembers>(alloc: Global, core: &mut C, r: Rel)
     if !core.is_worth_listing(r) {
         return;
     }
-    match core.count(alloc, r) {
-        Ok(count) => {
-            if count <= MOST_PAIRS {
-                list_pairs(alloc, core, r);
-            }
-        }
-        Err(_) => {}
+    match pairs_within(alloc, core, r, MOST_PAIRS) {
+        Some(pairs) => core.keep_listing(r, pairs),
+        None => {}
     }
 }
 

@@ -1,4 +1,5 @@
-//! What is remembered of relations that are walked: the pairs of a few, and which walks ask for a list.
+//! What is remembered of relations that are walked or transposed: the pairs of a few, which walks ask for a list, and
+//! the transpositions of a few.
 #![tactic(auto)]
 
 use rel_model::Rel;
@@ -100,4 +101,43 @@ fn relations_of_which_nine_are_walked_in_turn_are_never_worth_a_list(rt: HostRun
             assert!(&rt; !worth, "{root}: walk {walk}");
         }
     }
+}
+
+#[test]
+fn the_transpositions_of_eight_relations_are_remembered_and_the_ninth_takes_the_place_of_the_first(
+    rt: HostRuntime,
+) {
+    let mut remembered = Remembered::none();
+    for root in 1..9 {
+        remembered.note_transposed(named(root), named(100 + root));
+    }
+    for root in 1..9 {
+        assert!(&rt;
+            remembered.transposed(named(root)) == Some(named(100 + root)),
+            "{root}"
+        );
+    }
+    remembered.note_transposed(named(9), named(109));
+    assert!(&rt; remembered.transposed(named(1)).is_none());
+    for root in 2..10 {
+        assert!(&rt;
+            remembered.transposed(named(root)) == Some(named(100 + root)),
+            "{root}"
+        );
+    }
+}
+
+#[test]
+fn a_transposition_is_remembered_for_the_sizes_of_its_relation_and_in_one_direction(
+    rt: HostRuntime,
+) {
+    let mut remembered = Remembered::none();
+    remembered.note_transposed(named(1), named(2));
+    let wider = Rel {
+        rows: 300,
+        cols: 301,
+        root: 1,
+    };
+    assert!(&rt; remembered.transposed(wider).is_none());
+    assert!(&rt; remembered.transposed(named(2)).is_none());
 }
