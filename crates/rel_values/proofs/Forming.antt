@@ -14,14 +14,16 @@ use Rattle.rel_model.specs.Worker.{Worker, set_of, Gives, Keeps, MakesAtMost, Ha
 use Rattle.rel_model.proofs.Rooms.{derived_room-least, wide_room-four}
 use Rattle.rel_slices.specs.declared.thin.Value.{Value}
 use Rattle.rel_slices.specs.declared.thin.Value.TheVariants.{Whole, Lines}
-use Rattle.rel_slices.specs.Thin.{GivesValue, HasForm, IsLines, SomeThin as SomeLines, value_of, value_rows, value_cols}
+use Rattle.rel_slices.specs.Thin.{GivesValue, ValueStands, HasForm, IsLines, SomeThin as SomeLines, value_of, value_rows, value_cols}
 use Rattle.rel_slices.specs.ValueRooms.{formed_room}
 use Rattle.rel_slices.specs.Derived.{Derives}
+use Rattle.rel_steps.specs.Reading.{OnlyReads}
+use Rattle.rel_model.proofs.Workers.{keeps_set}
 use Rattle.rel_steps.proofs.Rooms.{as_high}
 use Rattle.rel_slices.proofs.Costs.{squares_in_cubes, value_row_limit, value_col_limit}
 use Rattle.rel_values.specs.Values.{Fits, owed, Operates, AreForms}
 use Rattle.rel_values.proofs.Small.{Held, forming_room}
-use Rattle.rel_values.proofs.Operating.{Underway, begun, given_fits, stops, ends_rel, ends_value}
+use Rattle.rel_values.proofs.Operating.{Underway, begun, has_read, given_fits, stops, ends_rel, ends_value}
 use Rattle.rel_values.proofs.Thinness.{AreThin, SomeThin, ArePlain, AllPlain, cases_three, plain_formed, plain_owed, some_high, three_squares}
 use Rattle.rel_values.proofs.Sizes.{formed_at, owed_at}
 
@@ -147,6 +149,16 @@ derived_whole {least = least} {made = made} {v = v} {x = x} {y = y} {a = a} {b =
     let y0 = operand_formed least y b q eb s.right s.right_form in
     ends_rel made given result good bad u k r c g er ec
     (ap (λ (z : Relation). f z (set_of v q)) (sym (ap (value_of v) ea)) ∙ ap (f (value_of v a)) (sym (ap (value_of v) eb)) ∙ both_mean f s) (omega (arith, x0, y0, l))
+
+-- both are left whole, whatever the form of their sizes
+pub left_so : {lean : Bool} {least made cost i j rows cols : ℕ} {o v w : Worker} {x y : Value} {p q : Rel} (f : Relation → Relation → Relation) (given : Result Rel Lack) (result : Result Value Lack)
+    → IfOk given (λ (z : Rel). result ≡ Ok (Whole z)) → IfErr given (λ (z : Lack). result ≡ Err z) → OnlyReads o v → x ≡ Whole p → y ≡ Whole q → ValueStands o x → ValueStands o y
+    → Keeps v w → MakesAtMost made v w → HasCause lean v w given → IfOk given (Gives w i j (f (set_of v p) (set_of v q))) → i ≡ rows → j ≡ cols → made ≤ cost → Operates least lean o w rows cols (f (value_of o x) (value_of o y)) cost result
+left_so {made = made} {o = o} {v = v} {x = x} {y = y} {p = p} {q = q} f given result good bad u ea eb sx sy k r c g er ec l =
+    let first = keeps_set o v p u.keeps (subst (ValueStands o) ea sx) ∙ ap (value_of o) (sym ea) in
+    let second = keeps_set o v q u.keeps (subst (ValueStands o) eb sy) ∙ ap (value_of o) (sym eb) in
+    ends_rel made given result good bad (has_read u) k r c g er ec
+    (ap (λ (z : Relation). f z (set_of v q)) first ∙ ap (f (value_of o x)) second) (omega (arith, l))
 
 -- one is lines
 pub derived_lines : {lean : Bool} {least i j rows cols counted most : ℕ} {o v w : Worker} {x y a b : Value} (f : Relation → Relation → Relation) (k m n : ℕ) (result : Result Value Lack)

@@ -8,3 +8,4 @@ pub mod Noting
 pub mod LineCounts
 pub mod LineLists
 pub mod Turning
+pub mod Univalence

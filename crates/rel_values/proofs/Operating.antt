@@ -25,6 +25,7 @@ use Rattle.rel_slices.specs.declared.thin.Value.{Value}
 use Rattle.rel_slices.specs.declared.thin.Value.TheVariants.{Whole, Lines}
 use Rattle.rel_slices.specs.Thin.{ValueStands, value_of, value_rows, value_cols, GivesValue, HasForm, IsLong}
 use Rattle.rel_slices.proofs.Valuing.{value_stays, value_same, whole_value, recast_value}
+use Rattle.rel_steps.specs.Reading.{OnlyReads}
 use Rattle.rel_values.specs.Values.{Fits, owed, Operates, OperatesWithin}
 use Rattle.rel_values.specs.Deciding.{Decides}
 
@@ -37,6 +38,10 @@ pub record Underway (most : ℕ) (old now : Worker) : Type 0 where
 -- none has come
 pub begun : (w : Worker) → Underway 0 w w
 begun w = record { keeps = keeps_itself w; room = omega arith; misses = refl }
+
+-- one has only read
+pub has_read : {v w : Worker} → OnlyReads v w → Underway 0 v w
+has_read r = record { keeps = r.keeps; room = r.room; misses = r.misses }
 
 -- one has come
 pub called : {T : Type 0} {lean : Bool} {n : ℕ} {v w : Worker} {x : T} → Keeps v w → MakesAtMost n v w → HasCause lean v w (Ok x) → Underway n v w

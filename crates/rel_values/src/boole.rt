@@ -1,15 +1,16 @@
-//! The Boolean operators, transposition, and the full and the empty relation.
-ghost use Rattle.std.specs.Prelude.{◌≡◌, ◌≤◌};
-ghost use Rattle.rel_model.specs.Operators.{union as union_of, inter as inter_of, complement as complement_of, transpose as transpose_of, transposed_by, full as full_relation, empty as empty_relation};
+//! The Boolean operators, and the full and the empty relation.
+ghost use Rattle.std.specs.Prelude.{◌≡◌, ◌≤◌, IfOk};
+ghost use Rattle.rel_model.specs.Operators.{union as union_of, inter as inter_of, complement as complement_of, full as full_relation, empty as empty_relation};
 ghost use Rattle.rel_model.specs.Relation.{size_limit};
-ghost use Rattle.rel_model.specs.Worker.{plain_room};
+ghost use Rattle.rel_model.specs.Worker.{Stands, set_of, Gives, Keeps, MakesAtMost, HasCause, plain_room};
 ghost use Rattle.rel_slices.specs.Ops.{boole_of};
 ghost use Rattle.rel_slices.specs.Thin.{value_of, value_rows, value_cols};
 ghost use Rattle.rel_values.specs.Values.{Fits, Operates};
 
 use crate::shaping::{both_in_form, in_form};
+use crate::standing::{both_left_whole, left_whole, stays_whole};
 use rel_model::engine_trait::Engine;
-use rel_model::{Lack, Shape};
+use rel_model::{Lack, Rel, Shape};
 use rel_slices::{Boole, Remembers, Value};
 
 /// Applies an operator to two values of one type.
@@ -39,6 +40,9 @@ pub fn union<E: Remembers>(engine: &mut E, x: &Value, y: &Value) -> Result<Value
         (union_of (value_of w x.now) (value_of w y.now))
         (plain_room (value_rows x.now) (value_cols x.now)) result }
 {
+    if let Some((r, s)) = both_left_whole(engine, x, y) {
+        return stays_whole(engine.union(r, s));
+    }
     between(engine, Boole::Union, x, y)
 }
 
@@ -54,7 +58,28 @@ pub fn inter<E: Remembers>(engine: &mut E, x: &Value, y: &Value) -> Result<Value
         (inter_of (value_of w x.now) (value_of w y.now))
         (plain_room (value_rows x.now) (value_cols x.now)) result }
 {
+    if let Some((r, s)) = both_left_whole(engine, x, y) {
+        return stays_whole(engine.inter(r, s));
+    }
     between(engine, Boole::Inter, x, y)
+}
+
+/// The complement of a whole relation within its sizes.
+fn whole_complement<E: Engine>(engine: &mut E, r: Rel) -> Result<Rel, Lack>
+    requires { Stands (E.worker engine.old) r }
+    ensures value { IfOk result (Gives (E.worker engine.new) r.rows r.cols
+        (complement_of (set_of (E.worker engine.old) r))) }
+    ensures keeps { Keeps (E.worker engine.old) (E.worker engine.new) }
+    ensures room { MakesAtMost (plain_room r.rows r.cols) (E.worker engine.old) (E.worker engine.new) }
+    ensures cause { HasCause E.lean (E.worker engine.old) (E.worker engine.new) result }
+{
+    let shape = Shape {
+        rows: r.rows,
+        cols: r.cols,
+    };
+    let all = engine.full(shape)?;
+    let rest = engine.diff(all, r)?;
+    Ok(rest)
 }
 
 /// `-R = {(i, j) : not (i, j) in r}`: the complement within the sizes of R (Schmidt and Ströhlein).
@@ -65,44 +90,23 @@ pub fn complement<E: Remembers>(engine: &mut E, v: &Value) -> Result<Value, Lack
         (complement_of (value_of w v.now))
         (plain_room (value_rows v.now) (value_cols v.now)) result }
 {
+    if let Some(r) = left_whole(engine, v) {
+        return stays_whole(whole_complement(engine, r));
+    }
+    complement_in_form(engine, v)
+}
+
+/// The same, by a value in its form.
+fn complement_in_form<E: Remembers>(engine: &mut E, v: &Value) -> Result<Value, Lack>
+    requires fits { Fits (E.worker engine.old) v.now }
+    ensures operates { let w = E.worker engine.old in Operates E.least E.lean w (E.worker engine.new)
+        (value_rows v.now) (value_cols v.now)
+        (complement_of (value_of w v.now))
+        (plain_room (value_rows v.now) (value_cols v.now)) result }
+{
     let a = in_form(engine, v)?;
     let rest = rel_slices::complement(engine, &a)?;
     Ok(rest)
-}
-
-/// `R^ = {(j, i) : (i, j) in r}`: the transposition (Schmidt and Ströhlein). Lines are transposed without making a
-/// node, and a whole value stays whole.
-fn transposed<E: Engine>(engine: &mut E, v: &Value) -> Result<Value, Lack>
-    requires fits { Fits (E.worker engine.old) v.now }
-    ensures operates { let w = E.worker engine.old in Operates E.least E.lean w (E.worker engine.new)
-        (value_cols v.now) (value_rows v.now)
-        (transpose_of (value_of w v.now))
-        (plain_room (value_rows v.now) (value_cols v.now)) result }
-{
-    match v {
-        Value::Whole(r) => {
-            let turned = engine.transpose(*r)?;
-            Ok(Value::Whole(turned))
-        }
-        Value::Lines(_) => {
-            let turned = rel_slices::transpose(engine, v)?;
-            Ok(turned)
-        }
-    }
-}
-
-/// `R^...^`: a value transposed `times` times.
-pub fn turned<E: Engine>(engine: &mut E, v: &Value, times: u32) -> Result<Value, Lack>
-    requires fits { Fits (E.worker engine.old) v.now }
-    ensures operates { let w = E.worker engine.old in Operates E.least E.lean w (E.worker engine.new)
-        (transposed_by times (value_of w v.now)).rows (transposed_by times (value_of w v.now)).cols
-        (transposed_by times (value_of w v.now))
-        (plain_room (value_rows v.now) (value_cols v.now)) result }
-{
-    if times % 2 == 0 {
-        return Ok(*v);
-    }
-    transposed(engine, v)
 }
 
 /// `{(i, j) : i < rows, j < cols}`: the full relation of these sizes, which must be within the limit.

@@ -10,7 +10,11 @@ use rel_slices::{Remembers, Thin, Value};
 use std::alloc::Global;
 
 /// How many pairs all lines have together.
-fn lines_count<E: Engine>(alloc: Global, engine: &mut E, s: &Thin) -> Result<u64, NoMemory>
+pub(crate) fn lines_count<E: Engine>(
+    alloc: Global,
+    engine: &mut E,
+    s: &Thin,
+) -> Result<u64, NoMemory>
     requires { ThinStands (E.worker engine.old) s.now }
     ensures value { IfOk result (λ n. n ≡ count_of (thin_of (E.worker engine.old) s.now)) }
     ensures keeps { Keeps (E.worker engine.old) (E.worker engine.new) }

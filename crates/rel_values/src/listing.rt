@@ -1,10 +1,12 @@
 //! The pairs of a value, in order.
-ghost use Rattle.std.specs.Prelude.{◌≡◌, ◌<◌, ◌++◌, IfOk, OnOk, OnErr, length, map, false};
+ghost use Rattle.std.specs.Prelude.{◌≡◌, ◌<◌, ◌≤◌, ◌++◌, IfOk, IfSome, OnOk, OnErr, length, map, false};
 ghost use Rattle.rel_model.specs.Operators.{transpose};
 ghost use Rattle.rel_model.specs.Relation.{Relation, IsRelation};
 ghost use Rattle.rel_model.specs.Worker.{Keeps, MakesAtMost, MissesNothing};
+ghost use Rattle.rel_steps.specs.Reading.{OnlyReads};
 ghost use Rattle.rel_slices.specs.Thin.{ThinStands, ValueStands, laid, line_set, thin_of, value_of};
 
+use crate::counting::lines_count;
 use rel_listing::pairs_of;
 use rel_model::NoMemory;
 use rel_model::engine_trait::Engine;
@@ -94,5 +96,55 @@ pub fn pairs<E: Remembers>(
     match v {
         Value::Whole(r) => pairs_of(alloc, engine, *r),
         Value::Lines(s) => lines_pairs(alloc, engine, s),
+    }
+}
+
+/// The pairs of the relation of lines, if there are at most `most`. `None`: there are more, or memory ran out.
+fn lines_within<E: Engine>(
+    alloc: Global,
+    engine: &mut E,
+    s: &Thin,
+    most: usize,
+) -> Option<Vec<(u32, u32)>>
+    requires { ThinStands (E.worker engine.old) s.now }
+    ensures value { IfSome result (λ v. v.items ≡ (thin_of (E.worker engine.old) s.now).pairs) }
+    ensures few { IfSome result (λ v. length v.items ≤ most) }
+    ensures reads { OnlyReads (E.worker engine.old) (E.worker engine.new) }
+{
+    match lines_count(alloc, engine, s) {
+        Ok(count) => {
+            if count > most as u64 {
+                return None;
+            }
+        }
+        Err(_) => return None,
+    }
+    match lines_pairs(alloc, engine, s) {
+        Ok(pairs) => {
+            if pairs.len() > most {
+                return None;
+            }
+            Some(pairs)
+        }
+        Err(_) => None,
+    }
+}
+
+/// The pairs of a value of at most `most`, by row and then by column. `None`: there are more, or memory ran out. A
+/// whole value is walked once, and no further than its pairs are wanted.
+pub fn pairs_within<E: Remembers>(
+    alloc: Global,
+    engine: &mut E,
+    v: &Value,
+    most: usize,
+) -> Option<Vec<(u32, u32)>>
+    requires { ValueStands (E.worker engine.old) v.now }
+    ensures value { IfSome result (λ p. p.items ≡ (value_of (E.worker engine.old) v.now).pairs) }
+    ensures few { IfSome result (λ p. length p.items ≤ most) }
+    ensures reads { OnlyReads (E.worker engine.old) (E.worker engine.new) }
+{
+    match v {
+        Value::Whole(r) => rel_listing::pairs_within(alloc, engine, *r, most),
+        Value::Lines(s) => lines_within(alloc, engine, s, most),
     }
 }

@@ -21,8 +21,8 @@ use lang_model::syntax::{Base, Place};
 use rel_model::engine_trait::Engine;
 use rel_model::{Rel, Shape};
 use rel_order::{hasse, less, quot};
-use rel_slices::{Remembers, Value, is_empty, trans, unival};
-use rel_values::{atom, dom, empty, epsi, full, init, inj, next, point, ran, square};
+use rel_slices::{Remembers, Value, is_empty, trans};
+use rel_values::{atom, dom, empty, epsi, full, init, inj, next, point, ran, square, unival};
 use std::alloc::Global;
 
 /// A truth value: the full or the empty relation with one row and one column.
@@ -78,7 +78,7 @@ fn plain_base<E: Remembers>(
             truth(engine, yes)
         }
         Base::Unival => {
-            let yes = unival(engine, r);
+            let yes = unival(alloc, engine, r);
             truth(engine, yes)
         }
         _ => none_given(engine),

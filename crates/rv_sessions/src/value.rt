@@ -1,5 +1,5 @@
 //! Values of expressions, and the forms in which they are shown.
-ghost use Rattle.std.specs.Prelude.{◌≡◌};
+ghost use Rattle.std.specs.Prelude.{◌≡◌, Err};
 ghost use Rattle.rel_model.specs.Worker.{Stands, set_of, Keeps, MakesAtMost};
 ghost use Rattle.rel_slices.specs.Thin.{value_of};
 ghost use Rattle.rel_values.specs.Values.{Fits};
@@ -15,7 +15,8 @@ use k2_file::write_k2;
 use lang_model::syntax::{Expr, Name};
 use rel_model::{NoMemory, Rel};
 use rel_slices::{Remembers, Value, shape_of};
-use rel_values::{count, pairs};
+use rel_values::{count, pairs, pairs_within};
+use run_model::limits::LIST_LIMIT;
 use run_model::outcome::Outcome;
 use rv_eval::{Refused, eval, eval_value};
 use rv_print::{listing_of, matrix, matrix_of, may_list, may_print, number_line, shape_text};
@@ -142,24 +143,34 @@ fn printed_on<E: Remembers, W>(
     print_text(task.alloc, engine, &value)
 }
 
+/// Why a value's pairs are not listed: there are too many, or memory ran out. No node is made.
+fn unlisted<E: Remembers>(alloc: Global, engine: &mut E, value: &Value) -> Outcome
+    requires { Fits (E.worker engine.old) value.now }
+    ensures shown { IsShown Listing (value_of (E.worker engine.old) value.now) (Err result) }
+    ensures keeps { Keeps (E.worker engine.old) (E.worker engine.new) }
+    ensures room { MakesAtMost 0 (E.worker engine.old) (E.worker engine.new) }
+{
+    let number = match count(alloc, engine, value) {
+        Ok(number) => number,
+        Err(NoMemory) => return Outcome::NoMemory,
+    };
+    match may_list(number) {
+        Ok(()) => Outcome::NoMemory,
+        Err(refused) => print_outcome(refused),
+    }
+}
+
 /// The list of a value's pairs, or why there is none. No node is made.
+///
+/// Only where there is no list are the pairs counted, for the refusal.
 fn list_text<E: Remembers>(alloc: Global, engine: &mut E, value: &Value) -> Result<Vec<u8>, Outcome>
     requires { Fits (E.worker engine.old) value.now }
     ensures shown { IsShown Listing (value_of (E.worker engine.old) value.now) (bytes_of result) }
     ensures keeps { Keeps (E.worker engine.old) (E.worker engine.new) }
     ensures room { MakesAtMost 0 (E.worker engine.old) (E.worker engine.new) }
 {
-    let number = match count(alloc, engine, value) {
-        Ok(number) => number,
-        Err(NoMemory) => return Err(Outcome::NoMemory),
-    };
-    match may_list(number) {
-        Ok(()) => {}
-        Err(refused) => return Err(print_outcome(refused)),
-    }
-    let listed = match pairs(alloc, engine, value) {
-        Ok(listed) => listed,
-        Err(NoMemory) => return Err(Outcome::NoMemory),
+    let Some(listed) = pairs_within(alloc, engine, value, LIST_LIMIT as usize) else {
+        return Err(unlisted(alloc, engine, value));
     };
     match listing_of(alloc, shape_of(value), listed.as_slice()) {
         Ok(text) => Ok(text),

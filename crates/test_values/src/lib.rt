@@ -8,6 +8,8 @@ mod operations;
 #[cfg(test)]
 mod remembered;
 #[cfg(test)]
+mod scattered;
+#[cfg(test)]
 mod slow;
 #[cfg(test)]
 mod tests;

@@ -4,8 +4,7 @@
 ghost use Rattle.std.specs.Prelude.{◌≡◌};
 ghost use Rattle.rel_model.specs.Worker.{Stands, Keeps};
 
-use crate::slow::Given;
-use crate::tests::{lie_within, listed};
+use crate::tests::lie_within;
 use crate::trial::{Trial, on_a_table};
 use rel_model::{Rel, Shape};
 use rel_slices::{Remembers, Value};
@@ -14,7 +13,20 @@ use std::alloc::Global;
 use std::process::Abort;
 use std::thread::Threads;
 
-/// The first relation of 20 × 300, as one with more rows; the extra rows are empty.
+/// The black places of a board, whose rows are of two kinds: a relation that does not look random.
+fn board(rt: &impl Abort, alloc: Global, shape: Shape) -> Vec<(u32, u32)> {
+    let mut pairs = Vec::new(alloc);
+    'rows: for i in 0..shape.rows {
+        'columns: for j in 0..shape.cols {
+            if i % 2 == j % 2 && pairs.push((i, j)).is_err() {
+                panic!(rt; "no memory");
+            }
+        }
+    }
+    pairs
+}
+
+/// A board of 20 × 300, as a relation with more rows; the extra rows are empty.
 fn with_rows<E: Remembers>(rt: &impl Abort, alloc: Global, engine: &mut E, rows: u32) -> Rel
     ensures standing { Stands (E.worker engine.new) result }
     ensures rows { result.rows ≡ rows }
@@ -25,7 +37,7 @@ fn with_rows<E: Remembers>(rt: &impl Abort, alloc: Global, engine: &mut E, rows:
         rows: 20,
         cols: 300,
     };
-    let pairs = listed(rt, alloc, Given::First, own);
+    let pairs = board(rt, alloc, own);
     let shape = Shape { rows, cols: 300 };
     assert!(rt; lie_within(pairs.as_slice(), shape));
     match engine.from_pairs(alloc, shape, pairs.as_slice()) {

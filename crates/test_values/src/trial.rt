@@ -4,7 +4,7 @@
 ghost use Rattle.rel_model.specs.Views.{IsOf};
 
 use crate::slow::{Op, Sizes};
-use crate::{counts, remembered, tests};
+use crate::{counts, remembered, scattered, tests};
 use fork_quads::{Crew, OpenGate};
 use pair_table::{PairTable, Seat};
 use rel_engine::Works;
@@ -14,14 +14,16 @@ use std::alloc::Global;
 use std::process::Abort;
 use std::thread::Threads;
 
-/// A trial: an operation at some sizes, the tests of two values, their counts, a pairing that is too wide, or what the
-/// engine remembers.
+/// A trial: an operation at some sizes, the tests of two values, their counts, a pairing that is too wide, what the
+/// engine remembers, maps by chance of a size, or thin relations by chance of some sizes.
 pub(crate) enum Trial {
     Operation(Op, Sizes),
     Tests(Shape),
     Counts(Shape),
     TooWide,
     Remembers,
+    Maps(u32),
+    Wholes(Shape),
 }
 
 /// Puts an engine through a trial.
@@ -32,6 +34,8 @@ fn put<E: Remembers>(rt: &impl Abort, alloc: Global, engine: &mut E, trial: Tria
         Trial::Counts(shape) => counts::are_counted(rt, alloc, engine, shape),
         Trial::TooWide => tests::is_too_wide(rt, engine),
         Trial::Remembers => remembered::are_told_apart(rt, alloc, engine),
+        Trial::Maps(size) => scattered::maps_are_told(rt, alloc, engine, size),
+        Trial::Wholes(shape) => scattered::wholes_agree_with_lines(rt, alloc, engine, shape),
     }
 }
 

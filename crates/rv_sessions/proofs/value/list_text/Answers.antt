@@ -1,45 +1,44 @@
-use Rattle.std.proofs.Common.{◌≤◌, ◌∙◌, length, refl, sym, ap, subst}
+use Rattle.std.proofs.Common.{◌≤◌, ◌∙◌, length, Err, refl, sym, ap, subst}
+use Rattle.rel_model.specs.Relation.{Relation}
 use Rattle.rel_slices.specs.Thin.{value_of}
-use Rattle.rel_slices.proofs.Valuing.{value_stays, value_same}
-use Rattle.run_model.specs.Due.{listed}
+use Rattle.rel_slices.proofs.Valuing.{value_same}
 use Rattle.run_model.specs.Page.{listing}
 use Rattle.run_model.specs.declared.outcome.Outcome.TheVariants.{TooLarge}
 use Rattle.run_model.specs.declared.outcome.Unit.TheVariants.{Pairs}
 use Rattle.run_model.specs.Limits.{list_limit}
+use Rattle.rel_values.proofs.Operating.{fits_stays}
 use Rattle.rv_eval.proofs.Operating.{type_of_fit}
-use Rattle.rv_print.specs.Refusals.{IsOver}
 use Rattle.rv_print.proofs.Left.{with_pairs-same}
-use Rattle.rv_sessions.proofs.Shown.{within_due, print_due}
+use Rattle.rv_sessions.specs.Showing.{IsShown}
+use Rattle.rv_sessions.specs.declared.form.Form.TheVariants.{Listing}
+use Rattle.rv_sessions.proofs.Shown.{within_due}
 use Rattle.rv_sessions.proofs.value.list_text.Goals as goal
 
-pub count-requires : goal.count-requires
-count-requires g c = c.requires.stands
+pub pairs_within-requires : goal.pairs_within-requires
+pairs_within-requires g c = c.requires.stands
 
-pub pairs-requires : goal.pairs-requires
-pairs-requires g c =
+pub unlisted-requires : goal.unlisted-requires
+unlisted-requires g c =
     let w = g.E.Core.worker in
-    value_stays (w c.args.engine.now) (w c.count.new.engine) c.args.value.now c.count.ensures.keeps c.requires.stands
+    fits_stays (w c.args.engine.now) (w c.pairs_within.new.engine) c.args.value.now c.pairs_within.ensures.reads.keeps c.requires
 
-pub returns-in-Err-may_list-clause-shown : goal.returns-in-Err-may_list-clause-shown
-returns-in-Err-may_list-clause-shown g c =
-    let r = value_of (g.E.Core.worker c.args.engine.now) c.args.value.now in
-    print_due list_limit (length r.pairs) Pairs r (listed r) c.print_outcome.result c.in-Err-may_list.refused refl
-    (subst (λ n. IsOver list_limit n Pairs c.in-Err-may_list.refused) c.in-Ok.ensures.value
-    c.in-Err-may_list.ensures.over)
-    c.print_outcome.ensures
+pub returns-in_default-clause-shown : goal.returns-in_default-clause-shown
+returns-in_default-clause-shown g c =
+    let w = g.E.Core.worker in
+    subst (λ (r : Relation). IsShown Listing r (Err c.unlisted.result))
+    (value_same (w c.args.engine.now) (w c.pairs_within.new.engine) c.args.value.now c.pairs_within.ensures.reads.keeps c.requires.stands) c.unlisted.ensures.shown
 
-pub returns-in-Ok-listing_of-clause-shown : goal.returns-in-Ok-listing_of-clause-shown
-returns-in-Ok-listing_of-clause-shown g c =
+pub returns-in-Ok-clause-shown : goal.returns-in-Ok-clause-shown
+returns-in-Ok-clause-shown g c =
     let e = c.args.engine.now in
     let w = g.E.Core.worker in
     let x = c.args.value.now in
     let r = value_of (w e) x in
     let t = type_of_fit (w e) x (g.met.E.Core.valid e) (g.met.E.Core.row_size e) (g.met.E.Core.col_size e) c.requires in
     let shape = c.shape_of.result in
-    let within = subst (λ n. n ≤ list_limit) c.in-Ok.ensures.value c.in-Ok-may_list.ensures.within in
-    let same = value_same (w e) (w c.count.new.engine) x c.count.ensures.keeps c.requires.stands in (
+    let within = subst (λ ps. length ps ≤ list_limit) c.in-Some.ensures.value c.in-Some.ensures.few in (
       within_due list_limit (length r.pairs) (TooLarge (length r.pairs) Pairs) r within,
-      c.in-Ok-listing_of.ensures ∙ ap listing (with_pairs-same r shape.rows shape.cols c.as_slice.result.now
+      c.in-Ok.ensures ∙ ap listing (with_pairs-same r shape.rows shape.cols c.as_slice.result.now
           (t.row_size ∙ sym c.shape_of.ensures.rows) (t.col_size ∙ sym c.shape_of.ensures.cols)
-          (c.as_slice.ensures.value ∙ c.in-Ok-pairs.ensures.value ∙ ap (λ v. v.pairs) same)),
+          (c.as_slice.ensures.value ∙ c.in-Some.ensures.value)),
     )

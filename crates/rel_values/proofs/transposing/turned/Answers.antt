@@ -3,7 +3,7 @@ use Rattle.rel_slices.specs.Thin.{value_rows, value_cols}
 use Rattle.rel_slices.proofs.Valuing.{value_type}
 use Rattle.rel_values.proofs.Small.{plain_squares, Held, owed_fits}
 use Rattle.rel_values.proofs.Operating.{begun, ends, turned_value, turned_once}
-use Rattle.rel_values.proofs.boole.turned.Goals as goal
+use Rattle.rel_values.proofs.transposing.turned.Goals as goal
 
 pub returns-then-times-eq0 : goal.returns-then-times-eq0
 returns-then-times-eq0 g c =

@@ -1,0 +1,22 @@
+use Rattle.std.proofs.Common.{refl, sym, ap, ap₂, arith}
+use Rattle.rel_model.specs.Operators.{inter}
+use Rattle.rel_slices.specs.Thin.{value_rows, value_cols}
+use Rattle.rel_slices.proofs.Valuing.{value_same}
+use Rattle.rel_values.proofs.Small.{square_room, operator_squares, plain_squares}
+use Rattle.rel_values.proofs.Operating.{has_read, after}
+use Rattle.rel_values.proofs.Forming.{left_so}
+use Rattle.rel_values.proofs.boole.inter.Goals as goal
+
+pub returns-in-Some : goal.returns-in-Some
+returns-in-Some g c =
+    let d = c.inter.ensures in
+    let s = c.stays_whole in
+    let e = c.in-Some.ensures.some in
+    record { operates = left_so inter c.inter.result s.result s.ensures.found s.ensures.failed c.both_left_whole.ensures.reads e.0 e.1 c.requires.left.stands c.requires.right.stands d.keeps d.room d.cause d.value (sym (ap value_rows e.0)) (sym (ap value_cols e.0)) (omega (arith, operator_squares c.in-Some.r.rows c.in-Some.r.cols, plain_squares (value_rows c.args.x.now) (value_cols c.args.x.now), ap₂ square_room (sym (ap value_rows e.0)) (sym (ap value_cols e.0)))) }
+
+pub returns : goal.returns
+returns g c =
+    let o = g.E.Core.worker c.args.engine.now in
+    let v = g.E.Core.worker c.both_left_whole.new.engine in
+    let k = c.both_left_whole.ensures.reads in
+    record { operates = after c.between.result (has_read k) c.between.ensures.operates refl refl (ap₂ inter (value_same o v c.args.x.now k.keeps c.requires.left.stands) (value_same o v c.args.y.now k.keeps c.requires.right.stands)) (omega arith) }
