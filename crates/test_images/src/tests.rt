@@ -1,13 +1,14 @@
 //! Images in both directions, compared with slow answers, and cases without an image.
-#![tactic(auto, using(crate::proofs::Later::rel_later, crate::proofs::Later::given_stands))]
+#![tactic(auto, using(crate::proofs::Later::rel_later, crate::proofs::Later::given_stands, crate::proofs::Later::pairs_later))]
 
-ghost use Rattle.std.specs.Prelude.{◌≡◌, ◌≤◌, ◌<◌};
+ghost use Rattle.std.specs.Prelude.{◌≡◌, ◌≤◌, ◌<◌, cond};
 ghost use Rattle.rel_model.specs.Listed.{AreWithin};
 ghost use Rattle.rel_model.specs.Worker.{Stands, Keeps};
 
 use crate::chance::{pairs_by_chance, slow_image};
 use crate::trial::{Trial, identity_has, on_an_engine};
-use rel_images::image;
+use rel_images::{image, image_of_pairs};
+use rel_listing::pairs_of;
 use rel_model::core_trait::Core;
 use rel_model::engine_trait::Engine;
 use rel_model::{Rel, Shape};
@@ -53,7 +54,35 @@ fn is_slow<E: Engine>(
     true
 }
 
-/// Asserts that the image of a random vector by a random relation is the slow answer. Returns whether there is one.
+/// Asserts that there is an image by the listed pairs of a relation, and that it is the slow answer.
+fn agrees_by_pairs<E: Engine>(
+    rt: &impl Abort,
+    alloc: Global,
+    engine: &mut E,
+    turned: bool,
+    u: Rel,
+    r: Rel,
+    wanted: &[(u32, u32)],
+)
+    requires line { Stands (E.worker engine.old) u }
+    requires standing { Stands (E.worker engine.old) r }
+    requires row { u.rows ≡ 1 }
+    requires middle { u.cols ≡ cond turned r.cols r.rows }
+    requires within { AreWithin 1 (cond turned r.rows r.cols) wanted.now }
+{
+    let Ok(pairs) = pairs_of(alloc, engine, r) else {
+        panic!(rt; "no memory")
+    };
+    let Ok(given) = image_of_pairs(alloc, engine, turned, u, r, &pairs) else {
+        panic!(rt; "no room")
+    };
+    let cols = if turned { r.rows } else { r.cols };
+    let found = is_slow(rt, alloc, engine, given, cols, wanted);
+    assert!(rt; found, "{r:?}");
+}
+
+/// Asserts that the image of a random vector by a random relation is the slow answer, by the relation's pairs and, if
+/// there is one, by a walk. Returns whether there is one by a walk.
 pub(crate) fn agrees<E: Engine>(
     rt: &impl Abort,
     alloc: Global,
@@ -91,6 +120,7 @@ pub(crate) fn agrees<E: Engine>(
     let Ok(given) = image(alloc, engine, turned, u, r) else {
         panic!(rt; "no room")
     };
+    agrees_by_pairs(rt, alloc, engine, turned, u, r, &wanted);
     is_slow(rt, alloc, engine, given, to, &wanted)
 }
 
