@@ -11,6 +11,3 @@ pub use compose::block_compose;
 pub use rect::block_rect;
 pub use transpose::block_transpose;
 pub use words::{block_diff, block_inter, block_union};
-
-#[cfg(test)]
-mod tests;

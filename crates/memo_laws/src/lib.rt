@@ -4,8 +4,6 @@
 mod equation;
 mod laws;
 mod memo;
-#[cfg(test)]
-mod tests;
 mod word;
 
 pub use equation::{Equation, Op};

@@ -9,8 +9,6 @@ mod rule;
 mod seats;
 mod steps;
 mod table;
-#[cfg(test)]
-mod tests;
 
 pub use home::home_of;
 pub use laws::{kids_stand, names_are_sets, names_stay, pairs_stand};

@@ -3,8 +3,6 @@
 
 mod names;
 mod reads;
-#[cfg(test)]
-mod tests;
 mod versions;
 
 pub use names::names_in;

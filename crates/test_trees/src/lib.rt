@@ -2,12 +2,20 @@
 #![tactic(auto)]
 
 #[cfg(test)]
+mod blocks;
+#[cfg(test)]
 mod counting;
 #[cfg(test)]
 mod derived;
 #[cfg(test)]
 mod making;
 #[cfg(test)]
+mod memo;
+#[cfg(test)]
+mod plain;
+#[cfg(test)]
 mod products;
+#[cfg(test)]
+mod table;
 #[cfg(test)]
 mod tests;
