@@ -1,9 +1,14 @@
 //! A case as a line: a script in which control bytes are replaced by their pictures, and repeated parts are in
 //! brackets.
 use crate::answer::answer;
+use crate::rules::checked;
 use std::alloc::Global;
 use std::test::Fail;
 use test_faults::{printed, refusal};
+
+/// Sixteen definitions, each calling the one before.
+const TOWER: &[u8] =
+    b"A(R)=R.\nB(R)=A(R).\nC(R)=B(R).\nD(R)=C(R).\nE(R)=D(R).\nF(R)=E(R).\nG(R)=F(R).\nH(R)=G(R).\nV(R)=H(R).\nJ(R)=V(R).\nK(R)=J(R).\nM(R)=K(R).\nN(R)=M(R).\nP(R)=N(R).\nQ(R)=P(R).\nS(R)=Q(R).\n";
 
 /// What the bytes of a line are part of.
 #[derive(Clone, Copy, Debug)]
@@ -69,14 +74,25 @@ fn without_pictures(alloc: Global, line: &[u8]) -> Result<Vec<u8>, Fail> {
     Ok(bytes)
 }
 
+/// What `check` answers on a script after the sixteen definitions.
+fn checked_behind_tower(alloc: Global, script: &[u8]) -> Result<String, Fail> {
+    let mut text = Vec::new(alloc);
+    text.extend_from_slice(TOWER)?;
+    text.extend_from_slice(script)?;
+    checked(alloc, text.as_slice())
+}
+
 /// The answer for a case: the script written out, or its fault. After `?`, only whether it is read; after `!`, the
-/// expression of its PRINT as it is printed.
+/// expression of its PRINT as it is printed; after `:`, what `check` answers, and after `%` the same behind sixteen
+/// definitions.
 pub fn answered(alloc: Global, line: &str) -> Result<String, Fail> {
     let line = repeated(alloc, line.as_bytes())?;
     let text = without_pictures(alloc, line.as_slice())?;
     match text.as_slice() {
         [b'?', script @ ..] => refusal(alloc, script),
         [b'!', script @ ..] => printed(alloc, script),
+        [b':', script @ ..] => checked(alloc, script),
+        [b'%', script @ ..] => checked_behind_tower(alloc, script),
         script => answer(alloc, script),
     }
 }

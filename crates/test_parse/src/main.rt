@@ -4,6 +4,7 @@
 
 mod answer;
 mod case;
+mod rules;
 mod show;
 
 use crate::case::answered;
