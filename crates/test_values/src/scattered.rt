@@ -1,5 +1,5 @@
-//! Relations by chance: scattered ones, which are listed to be told univalent, and thin ones, on which operators work as
-//! wholes.
+//! Relations by chance: scattered ones, which are listed to be told univalent, and thin ones, on which operators work
+//! as wholes.
 #![tactic(auto, using(rel_values::proofs::Operating::fits_stays, rel_values::proofs::Operating::whole_fits, rel_values::proofs::Operating::given_fits, rel_model::proofs::Workers::keeps_trans, rel_model::proofs::Workers::keeps_stands, rel_model::proofs::Workers::gives_stands))]
 
 ghost use Rattle.std.specs.Prelude.{◌≡◌};
