@@ -3,6 +3,7 @@ pub mod Cutting
 pub mod Leaves
 pub mod Quartering
 pub mod Listing
+pub mod Single
 pub mod Windows
 pub mod Rows
 pub mod Repeats

@@ -10,6 +10,7 @@ ghost use Rattle.rel_domains.specs.Curve.{AreFrom, cells_at};
 use crate::cut::cut_at;
 use crate::heights::cells_of;
 use crate::leaf::leaf_word;
+use crate::lone::lone;
 use rel_model::core_trait::Core;
 use rel_model::quads_trait::Quads;
 use rel_model::{Lack, Quad};
@@ -29,6 +30,9 @@ pub fn build<Q: Quads>(q: &mut Q, depth: u8, base: u64, places: &[u64]) -> Resul
     let height = q.bottom() + depth;
     if places.is_empty() {
         return Ok(Quad { height, name: 0 });
+    }
+    if places.len() == 1 {
+        return lone(q, depth, base, places[0]);
     }
     if depth == 0 {
         let leaf = q.block(leaf_word(height, base, places))?;

@@ -10,6 +10,7 @@ mod heights;
 pub mod laws;
 mod leaf;
 mod limit;
+mod lone;
 mod missing;
 mod pairing;
 mod pairs;
