@@ -54,6 +54,11 @@ impl<'t, R: Threads + Sync, G: Gate + Sync> Quads for Crew<'t, R, G> {
         self.nodes.quarters_ahead(q)
     }
 
+    /// Reads the words of a quad, so that its quarters need not wait for them.
+    fn read_ahead(&mut self, q: Quad) {
+        self.nodes.read_ahead(q);
+    }
+
     /// The quad of four quarters.
     fn corner(&mut self, nw: Quad, ne: Quad, sw: Quad, se: Quad) -> Result<Quad, Lack> {
         told(self.nodes.corner(nw, ne, sw, se))

@@ -45,6 +45,11 @@ impl<'t, R: Threads + Sync, G: Gate + Sync> Quads for Works<'t, R, G> {
         self.crew.quarters_ahead(q)
     }
 
+    /// Reads the words of a quad, so that its quarters need not wait for them.
+    fn read_ahead(&mut self, q: Quad) {
+        self.crew.read_ahead(q);
+    }
+
     /// The quad made of four quarters.
     fn corner(&mut self, nw: Quad, ne: Quad, sw: Quad, se: Quad) -> Result<Quad, Lack> {
         self.crew.corner(nw, ne, sw, se)

@@ -54,15 +54,15 @@ pub record Halving (u v : Worker) (h : ℕ) (strip rest upper lower : List (Quad
   pub lower_is : IsStripFrom v h 0 at lower
   pub means : (row i j : ℕ) → laid (quad_set u) row strip i j ≡ ((laid (quad_set v) row upper i j || laid (quad_set v) (row + 2 ^ h) lower i j) || laid (quad_set u) row rest i j)
 
-pub halving_none : {u : Worker} {h : ℕ} {strip rest upper lower : List (Quad × ℕ)} → IsStrip u (h + 1) size_limit strip → rest ≡ strip → upper ≡ [] → lower ≡ [] → Halving u u h strip rest upper lower
-halving_none {u} {h} {strip} {rest} {upper} {lower} s r a b =
-    subst (λ (zs : List (Quad × ℕ)). Halving u u h strip zs upper lower) (sym r)
-    (subst (λ (zs : List (Quad × ℕ)). Halving u u h strip strip zs lower) (sym a)
-    (subst (λ (zs : List (Quad × ℕ)). Halving u u h strip strip [] zs) (sym b) whole))
+pub halving_none : {u v : Worker} {h : ℕ} {strip rest upper lower : List (Quad × ℕ)} → IsStrip u (h + 1) size_limit strip → OnlyReads u v → rest ≡ strip → upper ≡ [] → lower ≡ [] → Halving u v h strip rest upper lower
+halving_none {u} {v} {h} {strip} {rest} {upper} {lower} s only r a b =
+    subst (λ (zs : List (Quad × ℕ)). Halving u v h strip zs upper lower) (sym r)
+    (subst (λ (zs : List (Quad × ℕ)). Halving u v h strip strip zs lower) (sym a)
+    (subst (λ (zs : List (Quad × ℕ)). Halving u v h strip strip [] zs) (sym b) whole))
   where
-    whole : Halving u u h strip strip [] []
+    whole : Halving u v h strip strip [] []
     whole = record {
-      reads = reads_itself u;
+      reads = only;
       at = 0;
       rest_is = s;
       upper_is = record { quads = tt; spaced = omega arith };
@@ -81,6 +81,18 @@ next_is {u} {v} {h} {at} {e} {more} {rest} k r s = here (subst (λ (zs : List (Q
   where
     here : IsStripFrom u h at size_limit (e ∷ more) → IsNext v h e
     here t = record { stands = kept_quad u v e.0 k t.quads.0.0; over = λ least l. subst (λ (x : ℕ). least < x) (sym t.quads.0.1) l; fits = subst (λ (x : ℕ). e.1 + 2 ^ x ≤ size_limit) (sym t.quads.0.1) (spaced-le (2 ^ h) (e.1 + 2 ^ h) size_limit more t.spaced.1) }
+
+-- quads of a strip were read, and these are left
+pub record Reading (u v : Worker) (h : ℕ) (rest : List (Quad × ℕ)) : Type 0 where
+  pub reads : OnlyReads u v
+  pub at : ℕ
+  pub rest_is : IsStripFrom u h at size_limit rest
+
+pub reading_more : {u v w : Worker} {h : ℕ} {e : Quad × ℕ} {more rest : List (Quad × ℕ)} → Reading u v h rest → rest ≡ e ∷ more → OnlyReads v w → Reading u w h more
+reading_more {u} {v} {w} {h} {e} {more} {rest} s r reads = here (subst (λ (zs : List (Quad × ℕ)). IsStripFrom u h s.at size_limit zs) r s.rest_is)
+  where
+    here : IsStripFrom u h s.at size_limit (e ∷ more) → Reading u w h more
+    here t = record { reads = reads_on s.reads reads; at = e.1 + 2 ^ h; rest_is = record { quads = t.quads.1; spaced = t.spaced.1 } }
 
 -- the quad named 0 has no cell
 pub none_of : (w : Worker) (q : Quad) → w.quad (record { height = q.height; name = 0 }) ≡ Some no_cells → q.name ≡ 0 → quad_set w q ≡ no_cells

@@ -9,6 +9,24 @@ use rel_model::empty::side_of;
 use rel_model::quads_trait::Quads;
 use rel_model::{NoMemory, Quad, Quarters};
 
+/// How many quads a strip has at least if their words are read before the first is opened. A guess: it only costs time.
+const MANY: usize = 8;
+
+/// Reads the words of a strip's quads, whose quarters have this height, if they are many (prefetch). They lie all over the
+/// table, and opening the quads one by one would wait for each of them.
+fn read_strip<Q: Quads>(q: &mut Q, strip: &[(Quad, u32)], height: u8)
+    requires strip { IsStrip (Q.worker q.old) (height + 1) size_limit strip.now }
+    requires low { Q.least ≤ height }
+    ensures { OnlyReads (Q.worker q.old) (Q.worker q.new) }
+{
+    if strip.len() < MANY {
+        return;
+    }
+    'quads: for (quad, _) in strip {
+        q.read_ahead(*quad);
+    }
+}
+
 /// Puts the quarters, of a height, of a strip's quads into two strips, from left to right.
 pub(crate) fn halve<Q: Quads>(
     q: &mut Q,
@@ -25,6 +43,7 @@ pub(crate) fn halve<Q: Quads>(
         (Halves (Q.worker q.old) (Q.worker q.new) height strip.now upper.new.items lower.new.items) }
     ensures reads { OnlyReads (Q.worker q.old) (Q.worker q.new) }
 {
+    read_strip(q, strip, height);
     'quads: for (quad, column) in strip {
         push_quarters(q, *quad, *column, upper, lower)?;
     }

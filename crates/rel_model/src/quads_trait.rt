@@ -56,6 +56,15 @@ pub trait Quads: Core {
         ensures room { MakesAtMost 0 (Self.worker self.old) (Self.worker self.new) }
         ensures misses { MissesNothing (Self.worker self.old) (Self.worker self.new) };
 
+    /// Reads the words of a quad above the leaves (prefetch), so that `quarters` of it need not wait for them: for many
+    /// quads, before the first of them is opened.
+    fn read_ahead(&mut self, q: Quad)
+        requires stands { HasQuad (Self.worker self.old) q }
+        requires over { Self.least < q.height }
+        ensures keeps { Keeps (Self.worker self.old) (Self.worker self.new) }
+        ensures room { MakesAtMost 0 (Self.worker self.old) (Self.worker self.new) }
+        ensures misses { MissesNothing (Self.worker self.old) (Self.worker self.new) };
+
     /// The quad with these four quarters, which must have one height.
     fn corner(&mut self, nw: Quad, ne: Quad, sw: Quad, se: Quad) -> Result<Quad, Lack>
         requires nw_stands { HasQuad (Self.worker self.old) nw }

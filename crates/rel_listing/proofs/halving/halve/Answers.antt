@@ -6,7 +6,7 @@ use Rattle.rel_listing.proofs.Halves.{none_of, next_is, halving_none, halving_mo
 use Rattle.rel_listing.proofs.halving.halve.Goals as goal
 
 pub quads-init : goal.quads-init
-quads-init g c = halving_none c.requires.strip refl c.requires.no_upper c.requires.no_lower
+quads-init g c = halving_none c.requires.strip c.read_strip.ensures refl c.requires.no_upper c.requires.no_lower
 
 pub push_quarters-requires-clause-stands : goal.push_quarters-requires-clause-stands
 push_quarters-requires-clause-stands g c = let n = next_is c.quads.invariant.reads.keeps (drop_next c.args.strip.now c.quads.quad-index _ c.quads-test.true) c.quads.invariant.rest_is in n.stands
