@@ -15,3 +15,4 @@ pub mod Halves
 pub mod Functions
 pub mod Fewness
 pub mod Steps
+pub mod Knowing

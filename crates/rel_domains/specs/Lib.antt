@@ -3,3 +3,4 @@ pub mod Rules
 pub mod Ranks
 pub mod Refusals
 pub mod Laws
+pub mod Singles

@@ -18,6 +18,7 @@ mod power_set;
 mod products;
 mod row;
 mod rule;
+mod singles;
 mod square;
 mod sums;
 mod vector;

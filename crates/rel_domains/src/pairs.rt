@@ -6,7 +6,7 @@ ghost use Rattle.rel_model.specs.Worker.{Gives, Keeps, MakesAtMost, HasCause, li
 ghost use Rattle.rel_model.specs.Roots.{height_over};
 ghost use Rattle.rel_model.specs.Listed.{AreWithin, is_among};
 
-use crate::build::build;
+use crate::build::quad_of_places;
 use crate::curve::places_of;
 use crate::heights::depth_over;
 use rel_model::core_trait::Core;
@@ -43,7 +43,7 @@ pub fn from_pairs_or_none<Q: Quads>(
         return Ok(None);
     };
     places.sort_unstable();
-    match build(q, depth, 0, places.as_slice()) {
+    match quad_of_places(q, depth, places.as_slice()) {
         Ok(quad) => Ok(Some(q.rel(shape, quad))),
         Err(lack) => Err(lack),
     }

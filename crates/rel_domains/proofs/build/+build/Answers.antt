@@ -26,22 +26,22 @@ fits g t c = omega (arith, part g t c, c.requires.base, cells_step g.Q.Core.leas
 pub build-requires : goal.build-requires
 build-requires g t c κs within =
     let at = (goal.at.build-requires g t c).After-cut_at-3 in
-    (search rules, (within, (omega (arith, c.requires.high), (omega (arith, fits g t at), (c.cut_at-2.ensures.front_order, (parts g t at).nw_span)))))
+    (search rules, (within, (omega (arith, c.requires.high), (omega (arith, fits g t at), (c.cut_at-2.ensures.front_order, ((parts g t at).nw_span, c.requires.known))))))
 
 pub build-requires-2 : goal.build-requires-2
 build-requires-2 g t c κs within =
     let at = (goal.at.build-requires-2 g t c).After-cut_at-3 in
-    (search rules, (within, (omega (arith, c.requires.high), (omega (arith, fits g t at), (c.cut_at-2.ensures.back_order, (parts g t at).ne_span)))))
+    (search rules, (within, (omega (arith, c.requires.high), (omega (arith, fits g t at), (c.cut_at-2.ensures.back_order, ((parts g t at).ne_span, c.in_ok-nw.ensures.known))))))
 
 pub build-requires-3 : goal.build-requires-3
 build-requires-3 g t c κs within =
     let at = (goal.at.build-requires-3 g t c).After-cut_at-3 in
-    (search rules, (within, (omega (arith, c.requires.high), (omega (arith, fits g t at), (c.cut_at-3.ensures.front_order, (parts g t at).sw_span)))))
+    (search rules, (within, (omega (arith, c.requires.high), (omega (arith, fits g t at), (c.cut_at-3.ensures.front_order, ((parts g t at).sw_span, c.in_ok-ne.ensures.known))))))
 
 pub build-requires-4 : goal.build-requires-4
 build-requires-4 g t c κs within =
     let at = (goal.at.build-requires-4 g t c).After-cut_at-3 in
-    (search rules, (within, (omega (arith, c.requires.high), (omega (arith, fits g t at), (c.cut_at-3.ensures.back_order, (parts g t at).se_span)))))
+    (search rules, (within, (omega (arith, c.requires.high), (omega (arith, fits g t at), (c.cut_at-3.ensures.back_order, ((parts g t at).se_span, c.in_ok-sw.ensures.known))))))
 
 -- ---- how few nodes
 few : (g : Over) (t : ℕ) (c : After-cut_at-3 g t) → listed_room (length c.cut_at-2.result.0.now) (c.args.depth - 1) + (listed_room (length c.cut_at-2.result.1.now) (c.args.depth - 1)

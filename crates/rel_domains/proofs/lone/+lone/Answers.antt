@@ -5,6 +5,7 @@ use Rattle.rel_model.specs.Worker.{GivesQuad}
 use Rattle.rel_steps.proofs.Given.{gives_has}
 use Rattle.rel_steps.proofs.Making.{begun, goes_on, ends}
 use Rattle.rel_domains.specs.Curve.{cells_at}
+use Rattle.rel_domains.proofs.Knowing.{knows_noted}
 use Rattle.rel_domains.proofs.Quartering.{places_parts, leaf_given}
 use Rattle.rel_domains.proofs.Single.{pick, four_at, given_if}
 use Rattle.rel_domains.proofs.Steps.{room_step, room_some}
@@ -53,3 +54,8 @@ returns-clause-makes g t c =
     let r = room_step c.args.depth c.if-depth-eq0.false in
     let e = c.in_ok-corner.ensures in
     ends 3 (omega (arith, r)) parts (goes_on (begun _) made) nw ne sw se e.value e.keeps e.room e.cause
+
+pub returns-clause-known : goal.returns-clause-known
+returns-clause-known g t c =
+    let made = returns-clause-makes g t c in
+    knows_noted c.args.depth c.args.base c.args.place c.in_ok-corner.corner c.in_ok-quad.ensures.known c.in_ok-corner.ensures.keeps c.requires.low made.value c.note.ensures.size c.note.ensures.names
