@@ -1,7 +1,9 @@
-/* A relation of pairs by chance is named from the sorted places of its pairs, in plain C, in three ways: node by node, as
-   crates/rel_domains does; two heights at a time, asking for the places of the words of four corners before the first is
-   named; and height by height, a number of corners at a time, asking for all their places first. All make the same words,
-   but for a few that are a pair of names and a leaf's cells at once, since names differ.
+/* A relation of pairs by chance is named from the sorted places of its pairs, in plain C, in five ways: node by node, cutting
+   the places at each quarter; two heights at a time, asking for the places of the words of four corners before the first is
+   named; height by height, a number of corners at a time, asking for all their places first; node by node, but a quad of a
+   single pair by the bits of its place; and the same with the names of such quads kept, 3 heights above the leaves, as
+   crates/rel_domains does. All make the same words, but for a few that are a pair of names and a leaf's cells at once, since
+   names differ.
 
        cc -O3 -march=x86-64-v2 -o /tmp/naming bench/naming/plain.c && /tmp/naming HEIGHT PAIRS BITS
 
@@ -17,9 +19,11 @@
 typedef uint64_t u64;
 typedef uint32_t u32;
 
-enum { LEAF = 3, MOST = 64, ROUNDS = 5, WAYS = 5 };
-static const char *WAY[WAYS] = {"node by node", "two heights at a time", "4 corners", "16 corners", "32 corners"};
+enum { LEAF = 3, MOST = 64, KEPT = 3, ROUNDS = 5, WAYS = 7 };
+static const char *WAY[WAYS] = {"node by node", "two heights at a time", "4 corners", "16 corners", "32 corners",
+                                "single pairs by their places", "with their names kept"};
 static u64 *table, count, made;
+static u32 kept[64 << 2 * KEPT];
 static int bits;
 
 static double now(void) {
@@ -102,6 +106,34 @@ static u32 by_nodes(int depth, u64 base, const u64 *places, u64 n) {
     return corner(q);
 }
 
+/* a quad of a single pair, some depths higher */
+static u32 climb(u32 name, u64 place, int from, int to) {
+    for (int depth = from; depth < to; depth++) {
+        u64 quarter = place >> (6 + 2 * depth) & 3;
+        u32 half = quarter & 1 ? pair(0, name) : pair(name, 0);
+        name = quarter & 2 ? pair(0, half) : pair(half, 0);
+    }
+    return name;
+}
+
+static u32 single(int depth, u64 place, int keeps) {
+    if (!keeps || depth < KEPT) return climb(intern(1ull << (place & 63)), place, 0, depth);
+    u32 *name = &kept[place & ((64 << 2 * KEPT) - 1)];
+    if (!*name) *name = climb(intern(1ull << (place & 63)), place, 0, KEPT);
+    return climb(*name, place, KEPT, depth);
+}
+
+static u32 by_singles(int depth, u64 base, const u64 *places, u64 n, int keeps) {
+    if (!n) return 0;
+    if (n == 1) return single(depth, places[0], keeps);
+    if (!depth) return leaf(base, places, n);
+    u64 part = 64ull << 2 * (depth - 1), end[5];
+    u32 q[4];
+    quarters(places, n, base, part, end);
+    for (int k = 0; k < 4; k++) q[k] = by_singles(depth - 1, base + k * part, places + end[k], end[k + 1] - end[k], keeps);
+    return corner(q);
+}
+
 static u32 by_two(int depth, u64 base, const u64 *places, u64 n) {
     if (depth < 2 || !n) return by_nodes(depth, base, places, n);
     u64 part = 64ull << 2 * (depth - 1), sub = part / 4, end[5], inner[5];
@@ -175,10 +207,12 @@ int main(int words, char **word) {
     for (int round = 0; round < ROUNDS; round++)
         for (int way = 0; way < WAYS; way++) {
             memset(table, 0, size);
+            memset(kept, 0, sizeof kept);
             made = 0;
             double began = now();
             u32 root = way == 0 ? by_nodes(height - LEAF, 0, places, m)
                      : way == 1 ? by_two(height - LEAF, 0, places, m)
+                     : way > 4 ? by_singles(height - LEAF, 0, places, m, way == 6)
                      : by_heights(height - LEAF, places, m, way == 2 ? 4 : way == 3 ? 16 : 32, at, name);
             double took = now() - began;
             if (!root) return 1;
