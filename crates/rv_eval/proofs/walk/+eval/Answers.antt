@@ -20,87 +20,52 @@ use Rattle.rv_eval.proofs.walk.+eval.Goals as goal
 -- ---- calls
 pub call-returns-in-Err-clause-ends : goal.call-returns-in-Err-clause-ends
 call-returns-in-Err-clause-ends g t c =
-    let items = c.args.around.now.checked.now.items.items in
-    let item = c.in-Some-Function.field-0.now in
-    let d = defined items (Some item) c.bytes.ensures c.in-Some-Function.ensures in
-    let takes = ap takes_arguments c.in-Some-Function.field-0-is ∙ ap length (sym c.as_slice.ensures.value) in
-    bound_err items _ _ _ _ _ _ item _ _ _ _ c.if-around-eq0.false d takes c.in-Err.ensures
+    bound_err c.args.around.now.checked.now.items.items _ _ _ _ _ _ c.in-Some-Function.field-0.now _ _ _ _ c.if-around-eq0.false (defined c.args.around.now.checked.now.items.items (Some c.in-Some-Function.field-0.now) c.bytes.ensures c.in-Some-Function.ensures) (ap takes_arguments c.in-Some-Function.field-0-is ∙ ap length (sym c.as_slice.ensures.value)) c.in-Err.ensures
 
 pub call-returns-in-Err-bound_names-clause-ends : goal.call-returns-in-Err-bound_names-clause-ends
 call-returns-in-Err-bound_names-clause-ends g t c =
-    let items = c.args.around.now.checked.now.items.items in
-    let item = c.in-Some-Program.field-0.now in
-    let d = defined items (Some item) c.bytes.ensures c.in-Some-Program.ensures in
-    let takes = ap takes_arguments c.in-Some-Program.field-0-is ∙ ap length (sym c.as_slice-in-Some-Program.ensures.value) in
-    bound_err items _ _ _ _ _ _ item _ _ _ _ c.if-around-eq0.false d takes c.in-Err-bound_names.ensures
+    bound_err c.args.around.now.checked.now.items.items _ _ _ _ _ _ c.in-Some-Program.field-0.now _ _ _ _ c.if-around-eq0.false (defined c.args.around.now.checked.now.items.items (Some c.in-Some-Program.field-0.now) c.bytes.ensures c.in-Some-Program.ensures) (ap takes_arguments c.in-Some-Program.field-0-is ∙ ap length (sym c.as_slice-in-Some-Program.ensures.value)) c.in-Err-bound_names.ensures
 
 pub call-eval_expr-requires : goal.call-eval_expr-requires
 call-eval_expr-requires g t c κs within =
-    let w = g.E.Core.worker c.args.engine.now in
-    let items = c.args.around.now.checked.now.items.items in
-    let item = c.in-Some-Function.field-0.now in
-    let d = defined items (Some item) c.bytes.ensures c.in-Some-Function.ensures in
-    let fall = function_falls items _ c.args.called.name.now item c.if-around-eq0.false d _ _ _ _ c.in-Some-Function.field-0-is in
-    let bound = c.as_slice-in-Some-Function.ensures.value ∙ c.in-Ok.ensures.1 in
-    let stand = subst (AllFit w) (sym bound) (all_fit_bound w _ c.args.values.now c.requires.standing) in
-    (search (rules, fall), (search rules, stand))
+    let fall = function_falls c.args.around.now.checked.now.items.items _ c.args.called.name.now c.in-Some-Function.field-0.now c.if-around-eq0.false (defined c.args.around.now.checked.now.items.items (Some c.in-Some-Function.field-0.now) c.bytes.ensures c.in-Some-Function.ensures) _ _ _ _ c.in-Some-Function.field-0-is in
+    (search (rules, fall), (search rules, (subst (AllFit (g.E.Core.worker c.args.engine.now)) (sym (c.as_slice-in-Some-Function.ensures.value ∙ c.in-Ok.ensures.1)) (all_fit_bound (g.E.Core.worker c.args.engine.now) _ c.args.values.now c.requires.standing))))
 
 pub call-run_program-requires : goal.call-run_program-requires
 call-run_program-requires g t c κs within =
-    let w = g.E.Core.worker c.args.engine.now in
-    let items = c.args.around.now.checked.now.items.items in
-    let item = c.in-Some-Program.field-0.now in
-    let d = defined items (Some item) c.bytes.ensures c.in-Some-Program.ensures in
-    let fall = program_falls items _ c.args.called.name.now item c.if-around-eq0.false d _ _ _ _ _ _ _ c.in-Some-Program.field-0-is c.as_slice-stmts.ensures.value in
-    let stand = subst (AllFit w) (sym c.in-Ok-bound_names.ensures.1) (all_fit_bound w _ c.args.values.now c.requires.standing) in
-    (search (rules, fall), (search rules, stand))
+    let stand = subst (AllFit (g.E.Core.worker c.args.engine.now)) (sym c.in-Ok-bound_names.ensures.1) (all_fit_bound (g.E.Core.worker c.args.engine.now) _ c.args.values.now c.requires.standing) in
+    (search (rules, (program_falls c.args.around.now.checked.now.items.items _ c.args.called.name.now c.in-Some-Program.field-0.now c.if-around-eq0.false (defined c.args.around.now.checked.now.items.items (Some c.in-Some-Program.field-0.now) c.bytes.ensures c.in-Some-Program.ensures) _ _ _ _ _ _ _ c.in-Some-Program.field-0-is c.as_slice-stmts.ensures.value)), (search rules, stand))
 
 pub call-returns-in-Ok-clause-ends : goal.call-returns-in-Ok-clause-ends
 call-returns-in-Ok-clause-ends g t c =
-    let items = c.args.around.now.checked.now.items.items in
-    let item = c.in-Some-Function.field-0.now in
-    let d = defined items (Some item) c.bytes.ensures c.in-Some-Function.ensures in
+    let d = defined c.args.around.now.checked.now.items.items (Some c.in-Some-Function.field-0.now) c.bytes.ensures c.in-Some-Function.ensures in
     let bound = c.as_slice-in-Some-Function.ensures.value ∙ c.in-Ok.ensures.1 in
-    let e = function_means items _ c.args.called.name.now item c.if-around-eq0.false d c.args.called.at (g.E.Core.worker c.args.engine.now) _ _ _ c.args.turns.now c.in-Ok.ensures.0 bound c.requires.standing _ _ _ _ c.in-Some-Function.field-0-is c.as_slice.ensures.value in
-    only_step _ _ _ _ _ _ _ _ _ e c.eval_expr.ensures.ends (beside_owe g.E.Core.least _ _ _ bound)
+    only_step _ _ _ _ _ _ _ _ _ (function_means c.args.around.now.checked.now.items.items _ c.args.called.name.now c.in-Some-Function.field-0.now c.if-around-eq0.false d c.args.called.at (g.E.Core.worker c.args.engine.now) _ _ _ c.args.turns.now c.in-Ok.ensures.0 bound c.requires.standing _ _ _ _ c.in-Some-Function.field-0-is c.as_slice.ensures.value) c.eval_expr.ensures.ends (beside_owe g.E.Core.least _ _ _ bound)
 
 pub call-returns-in-Ok-bound_names-clause-ends : goal.call-returns-in-Ok-bound_names-clause-ends
 call-returns-in-Ok-bound_names-clause-ends g t c =
-    let items = c.args.around.now.checked.now.items.items in
-    let item = c.in-Some-Program.field-0.now in
-    let d = defined items (Some item) c.bytes.ensures c.in-Some-Program.ensures in
-    let e = program_reads items _ c.args.called.name.now item c.if-around-eq0.false d c.args.called.at (g.E.Core.worker c.args.engine.now) _ _ _ c.args.turns.now c.in-Ok-bound_names.ensures.0 c.in-Ok-bound_names.ensures.1 c.requires.standing _ _ _ _ _ _ _ _
+    let d = defined c.args.around.now.checked.now.items.items (Some c.in-Some-Program.field-0.now) c.bytes.ensures c.in-Some-Program.ensures in
+    let e = program_reads c.args.around.now.checked.now.items.items _ c.args.called.name.now c.in-Some-Program.field-0.now c.if-around-eq0.false d c.args.called.at (g.E.Core.worker c.args.engine.now) _ _ _ c.args.turns.now c.in-Ok-bound_names.ensures.0 c.in-Ok-bound_names.ensures.1 c.requires.standing _ _ _ _ _ _ _ _
     c.in-Some-Program.field-0-is c.as_slice-in-Some-Program.ensures.value c.as_slice-decls.ensures.value c.as_slice-stmts.ensures.value in
     only_step _ _ _ _ _ _ _ _ _ e c.run_program.ensures.ends (beside_owe g.E.Core.least _ _ _ c.in-Ok-bound_names.ensures.1)
 
 pub call-returns-in-None-clause-ends : goal.call-returns-in-None-clause-ends
 call-returns-in-None-clause-ends g t c =
-    let items = c.args.around.now.checked.now.items.items in
-    let d = defined items None c.bytes.ensures c.in-None.ensures in
-    let w = g.E.Core.worker c.args.engine.now in
-    refuses w c.args.turns.now _ _ _ _ _ (call_missing items _ c.args.called.at c.args.called.name.now (map (value_of w) c.args.values.now) c.args.turns.now c.if-around-eq0.false d) c.unknown-in-None.ensures
+    refuses (g.E.Core.worker c.args.engine.now) c.args.turns.now _ _ _ _ _ (call_missing c.args.around.now.checked.now.items.items _ c.args.called.at c.args.called.name.now (map (value_of (g.E.Core.worker c.args.engine.now)) c.args.values.now) c.args.turns.now c.if-around-eq0.false (defined c.args.around.now.checked.now.items.items None c.bytes.ensures c.in-None.ensures)) c.unknown-in-None.ensures
 
 -- ---- programs
 pub run_program-eval_expr-requires : goal.run_program-eval_expr-requires
 run_program-eval_expr-requires g t c κs within =
-    let v = g.E.Core.worker c.run_stmts.new.engine in
-    let stand = subst (AllFit v) (sym c.as_slice.ensures.value) c.in-Ok.ensures.fits in
-    (search rules, (search rules, stand))
+    (search rules, (search rules, (subst (AllFit (g.E.Core.worker c.run_stmts.new.engine)) (sym c.as_slice.ensures.value) c.in-Ok.ensures.fits)))
 
 pub run_program-returns-in-Err-clause-ends : goal.run_program-returns-in-Err-clause-ends
 run_program-returns-in-Err-clause-ends g t c =
-    let a = around_with (calls_within c.args.around.now.checked.now.items.items c.args.around.now.rank) c.args.decls.now in
-    first_err _ _ _ _ _ _ (λ s m. mean a s c.args.last.now m) _ _ _ _ _ refl c.in-Err.ensures.ends
+    first_err _ _ _ _ _ _ (λ s m. mean (around_with (calls_within c.args.around.now.checked.now.items.items c.args.around.now.rank) c.args.decls.now) s c.args.last.now m) _ _ _ _ _ refl c.in-Err.ensures.ends
 
 pub run_program-returns-clause-ends : goal.run_program-returns-clause-ends
 run_program-returns-clause-ends g t c =
     let a = around_with (calls_within c.args.around.now.checked.now.items.items c.args.around.now.rank) c.args.decls.now in
-    let v = g.E.Core.worker c.run_stmts.new.engine in
-    let read = sym c.as_slice.ensures.value in
-    let goes = first_on _ _ _ _ _ _ (λ s m. mean a s c.args.last.now m) _ _ _ refl c.in-Ok.ensures.ends (omega arith) in
-    let same = ap (λ xs. mean a (state_by v xs) c.args.last.now c.run_stmts.new.turns) read in
-    let owe = ap (names_owe g.E.Core.least) read in
-    goes_last _ _ _ _ _ _ _ _ _ _ _ (goes_as _ _ _ _ _ _ _ same goes) c.eval_expr.ensures.ends (omega (arith, owe))
+    goes_last _ _ _ _ _ _ _ _ _ _ _ (goes_as _ _ _ _ _ _ _ (ap (λ xs. mean a (state_by (g.E.Core.worker c.run_stmts.new.engine) xs) c.args.last.now c.run_stmts.new.turns) (sym c.as_slice.ensures.value)) (first_on _ _ _ _ _ _ (λ s m. mean a s c.args.last.now m) _ _ _ refl c.in-Ok.ensures.ends (omega arith))) c.eval_expr.ensures.ends (omega (arith, (ap (names_owe g.E.Core.least) (sym c.as_slice.ensures.value))))
 
 -- ---- arguments
 pub eval_args-eval_expr-requires : goal.eval_args-eval_expr-requires
@@ -111,28 +76,18 @@ eval_args-eval_expr-requires g t c κs within =
 
 pub eval_args-returns-in-Err-clause-ends : goal.eval_args-returns-in-Err-clause-ends
 eval_args-returns-in-Err-clause-ends g t c =
-    let k = c.args-2 in
-    let next = before_arg (around_of c.args.here.now.around) c.args.here.now.names.now k.values.items c.args.args.now k.arg-index c.arg-item.result c.args-2-test.true c.arg-item.is c.requires.standing k.invariant.goes in
-    goes_err _ _ _ _ _ _ _ _ _ _ _ _ _ _ next c.in-Err.ensures.ends
+    goes_err _ _ _ _ _ _ _ _ _ _ _ _ _ _ (before_arg (around_of c.args.here.now.around) c.args.here.now.names.now c.args-2.values.items c.args.args.now c.args-2.arg-index c.arg-item.result c.args-2-test.true c.arg-item.is c.requires.standing c.args-2.invariant.goes) c.in-Err.ensures.ends
 
 pub eval_args-returns-in-Err-push-clause-ends : goal.eval_args-returns-in-Err-push-clause-ends
 eval_args-returns-in-Err-push-clause-ends g t c =
-    let k = c.args-2 in
-    let next = before_arg (around_of c.args.here.now.around) c.args.here.now.names.now k.values.items c.args.args.now k.arg-index c.arg-item.result c.args-2-test.true c.arg-item.is c.requires.standing k.invariant.goes in
-    goes_lack _ _ _ _ _ _ _ _ (goes_on _ _ _ _ _ _ _ _ _ _ _ _ next c.in-Ok.ensures.ends (omega arith))
+    goes_lack _ _ _ _ _ _ _ _ (goes_on _ _ _ _ _ _ _ _ _ _ _ _ (before_arg (around_of c.args.here.now.around) c.args.here.now.names.now c.args-2.values.items c.args.args.now c.args-2.arg-index c.arg-item.result c.args-2-test.true c.arg-item.is c.requires.standing c.args-2.invariant.goes) c.in-Ok.ensures.ends (omega arith))
 
 pub eval_args-args-2-preserved : goal.eval_args-args-2-preserved
 eval_args-args-2-preserved g t c =
-    let w = g.E.Core.worker c.args.engine.now in
-    let a = around_of c.args.here.now.around in
-    let s = state_by w c.args.here.now.names.now in
-    let v = g.E.Core.worker c.args-2.engine in
     let u = g.E.Core.worker c.eval_expr.new.engine in
     let rs = c.args-2.values.items in
-    let vs = map (value_of v) rs in
-    let k = c.args-2.arg-index + 1 in
-    let next = before_arg a c.args.here.now.names.now rs c.args.args.now c.args-2.arg-index c.arg-item.result c.args-2-test.true c.arg-item.is c.requires.standing c.args-2.invariant.goes in
-    let goes = goes_on _ _ _ _ _ _ _ _ _ _ _ _ next c.in-Ok.ensures.ends (omega arith) in
+    let vs = map (value_of (g.E.Core.worker c.args-2.engine)) rs in
+    let goes = goes_on _ _ _ _ _ _ _ _ _ _ _ _ (before_arg (around_of c.args.here.now.around) c.args.here.now.names.now rs c.args.args.now c.args-2.arg-index c.arg-item.result c.args-2-test.true c.arg-item.is c.requires.standing c.args-2.invariant.goes) c.in-Ok.ensures.ends (omega arith) in
     let kept = c.in-Ok.ensures.ends.keeps in
     let pushed : c.push.new.self.items ≡ rs ++ c.in-Ok.value ∷ [] = c.in-Ok-push.ensures.items in
     let leaf = g.E.Core.least in
@@ -141,8 +96,8 @@ eval_args-args-2-preserved g t c =
     let one : values_owe leaf (rs ++ c.in-Ok.value ∷ []) ≤ max (owed leaf c.in-Ok.value) (values_owe leaf rs) = most-push (owed leaf) rs c.in-Ok.value in
     let less : max (values_owe leaf c.push.new.self.items) start ≤ max (owed leaf c.in-Ok.value) (max (values_owe leaf rs) start) = omega (arith, owe, one) in
     record {
-      goes = goes_with _ _ _ _ _ _ _ less (goes_as _ _ _ _ _ _ _ (ap (λ xs. means_by a s xs (drop k c.args.args.now) c.eval_expr.new.turns) (values_more v u rs c.in-Ok.value kept c.args-2.invariant.stands ∙ ap (map (value_of u)) (sym pushed))) goes);
-      stands = subst (AllByRecursion (Fits u)) (sym pushed) (all_values_more v u rs c.in-Ok.value kept c.args-2.invariant.stands c.in-Ok.ensures.fits);
+      goes = goes_with _ _ _ _ _ _ _ less (goes_as _ _ _ _ _ _ _ (ap (λ xs. means_by (around_of c.args.here.now.around) (state_by (g.E.Core.worker c.args.engine.now) c.args.here.now.names.now) xs (drop (c.args-2.arg-index + 1) c.args.args.now) c.eval_expr.new.turns) (values_more (g.E.Core.worker c.args-2.engine) u rs c.in-Ok.value kept c.args-2.invariant.stands ∙ ap (map (value_of u)) (sym pushed))) goes);
+      stands = subst (AllByRecursion (Fits u)) (sym pushed) (all_values_more (g.E.Core.worker c.args-2.engine) u rs c.in-Ok.value kept c.args-2.invariant.stands c.in-Ok.ensures.fits);
     }
 
 -- ---- expressions
@@ -171,8 +126,7 @@ eval_expr-eval_expr-requires g t c κs within =
 pub eval_expr-eval_expr-requires-in-Ok-eval_expr : goal.eval_expr-eval_expr-requires-in-Ok-eval_expr
 eval_expr-eval_expr-requires-in-Ok-eval_expr g t c κs within =
     let w : weight c.args.expr.now ≡ weight c.in-Pair.left.value + weight c.deref-in-Ok-eval_expr.result.now + 1 = ap weight c.in-Pair.is ∙ ap (λ x. weight c.in-Pair.left.value + weight x + 1) (sym c.deref-in-Ok-eval_expr.ensures) in
-    let stand = all_fit_kept (g.E.Core.worker c.args.engine.now) (g.E.Core.worker c.eval_expr.new.engine) c.args.here.now.names.now c.in-Ok-eval_expr.ensures.ends.keeps c.requires.standing in
-    (search (rules, w), search (rules, stand))
+    (search (rules, w), search (rules, (all_fit_kept (g.E.Core.worker c.args.engine.now) (g.E.Core.worker c.eval_expr.new.engine) c.args.here.now.names.now c.in-Ok-eval_expr.ensures.ends.keeps c.requires.standing)))
 
 pub eval_expr-eval_expr-requires-in-Minus : goal.eval_expr-eval_expr-requires-in-Minus
 eval_expr-eval_expr-requires-in-Minus g t c κs within =
@@ -192,27 +146,17 @@ eval_expr-eval_expr-requires-in-Chain g t c κs within =
 pub eval_expr-eval_links-requires : goal.eval_expr-eval_links-requires
 eval_expr-eval_links-requires g t c κs within =
     let w : weight c.args.expr.now ≡ weight c.in-Chain.first.value + weight_of_links c.as_slice-in-Ok-eval_expr-5.result.now + 1 = ap weight c.in-Chain.is ∙ weight-chain c.in-Chain.first c.in-Chain.rest ∙ ap (λ ls. weight c.in-Chain.first.value + weight_of_links ls + 1) (sym c.as_slice-in-Ok-eval_expr-5.ensures.value) in
-    let stand = all_fit_kept (g.E.Core.worker c.args.engine.now) (g.E.Core.worker c.eval_expr-in-Chain.new.engine) c.args.here.now.names.now c.in-Ok-eval_expr-5.ensures.ends.keeps c.requires.standing in
-    (search (rules, w), search (rules, stand, c.in-Ok-eval_expr-5.ensures.fits))
+    (search (rules, w), search (rules, (all_fit_kept (g.E.Core.worker c.args.engine.now) (g.E.Core.worker c.eval_expr-in-Chain.new.engine) c.args.here.now.names.now c.in-Ok-eval_expr-5.ensures.ends.keeps c.requires.standing), c.in-Ok-eval_expr-5.ensures.fits))
 
 pub eval_expr-returns-in-Ref-clause-ends : goal.eval_expr-returns-in-Ref-clause-ends
 eval_expr-returns-in-Ref-clause-ends g t c =
-    let a = around_of c.args.here.now.around in
-    let s = state_by (g.E.Core.worker c.args.engine.now) c.args.here.now.names.now in
-    let n = c.args.turns.now in
-    let w = g.E.Core.worker c.args.engine.now in
-    only_step _ _ _ _ _ _ _ _ _ (ap (λ x. mean a s x n) c.in-Ref.is) (ref_ends g.E.Core.least w c.args.here.now.names.now c.in-Ref.at c.in-Ref.name n c.value_of_name.result c.requires.standing c.value_of_name.ensures) (omega arith)
+    only_step _ _ _ _ _ _ _ _ _ (ap (λ x. mean (around_of c.args.here.now.around) (state_by (g.E.Core.worker c.args.engine.now) c.args.here.now.names.now) x c.args.turns.now) c.in-Ref.is) (ref_ends g.E.Core.least (g.E.Core.worker c.args.engine.now) c.args.here.now.names.now c.in-Ref.at c.in-Ref.name c.args.turns.now c.value_of_name.result c.requires.standing c.value_of_name.ensures) (omega arith)
 
 pub eval_expr-returns-in-Ok-clause-ends : goal.eval_expr-returns-in-Ok-clause-ends
 eval_expr-returns-in-Ok-clause-ends g t c =
-    let a = around_of c.args.here.now.around in
-    let s = state_by (g.E.Core.worker c.args.engine.now) c.args.here.now.names.now in
-    let n = c.args.turns.now in
-    let u = g.E.Core.worker c.eval_args.new.engine in
-    let e = means-call a s n c.args.expr.now c.in-Call.at c.in-Call.name c.in-Call.args c.as_slice.result.now c.in-Call.is c.as_slice.ensures.value in
-    let same = ap (λ xs. a.calls c.in-Call.at c.in-Call.name (map (value_of u) xs) c.eval_args.new.turns) (sym c.as_slice-in-Ok.ensures.value) in
+    let e = means-call (around_of c.args.here.now.around) (state_by (g.E.Core.worker c.args.engine.now) c.args.here.now.names.now) c.args.turns.now c.args.expr.now c.in-Call.at c.in-Call.name c.in-Call.args c.as_slice.result.now c.in-Call.is c.as_slice.ensures.value in
     let owe : values_owe g.E.Core.least c.as_slice-in-Ok.result.now ≡ values_owe g.E.Core.least c.in-Ok.values.items = ap (values_owe g.E.Core.least) c.as_slice-in-Ok.ensures.value in
-    goes_last _ _ _ _ _ _ _ _ _ _ _ (goes_as _ _ _ _ _ _ _ same (first_on _ _ _ _ _ _ _ _ _ _ e c.in-Ok.ensures.ends (omega arith))) c.call.ensures.ends (omega (arith, owe))
+    goes_last _ _ _ _ _ _ _ _ _ _ _ (goes_as _ _ _ _ _ _ _ (ap (λ xs. (around_of c.args.here.now.around).calls c.in-Call.at c.in-Call.name (map (value_of (g.E.Core.worker c.eval_args.new.engine)) xs) c.eval_args.new.turns) (sym c.as_slice-in-Ok.ensures.value)) (first_on _ _ _ _ _ _ _ _ _ _ e c.in-Ok.ensures.ends (omega arith))) c.call.ensures.ends (omega (arith, owe))
 
 pub eval_expr-returns-in-Err-clause-ends : goal.eval_expr-returns-in-Err-clause-ends
 eval_expr-returns-in-Err-clause-ends g t c =
@@ -220,13 +164,8 @@ eval_expr-returns-in-Err-clause-ends g t c =
 
 pub eval_expr-returns-in-Ok-eval_args-clause-ends : goal.eval_expr-returns-in-Ok-eval_args-clause-ends
 eval_expr-returns-in-Ok-eval_args-clause-ends g t c =
-    let a = around_of c.args.here.now.around in
-    let s = state_by (g.E.Core.worker c.args.engine.now) c.args.here.now.names.now in
-    let n = c.args.turns.now in
-    let u = g.E.Core.worker c.eval_args-in-Base.new.engine in
-    let e = means-base a s n c.args.expr.now c.in-Base.at c.in-Base.base c.in-Base.args c.as_slice-in-Base.result.now c.in-Base.is c.as_slice-in-Base.ensures.value in
-    let same = ap (λ xs. with_turns (based c.in-Base.at c.in-Base.base (map (value_of u) xs)) c.eval_args-in-Base.new.turns) (sym c.as_slice-in-Ok-eval_args.ensures.value) in
-    goes_last _ _ _ _ _ _ _ _ _ _ _ (goes_as _ _ _ _ _ _ _ same (first_on _ _ _ _ _ _ _ _ _ _ e c.in-Ok-eval_args.ensures.ends (omega arith))) (ends_operation _ _ _ _ _ _ _ c.base_call.ensures.ends) (omega arith)
+    let e = means-base (around_of c.args.here.now.around) (state_by (g.E.Core.worker c.args.engine.now) c.args.here.now.names.now) c.args.turns.now c.args.expr.now c.in-Base.at c.in-Base.base c.in-Base.args c.as_slice-in-Base.result.now c.in-Base.is c.as_slice-in-Base.ensures.value in
+    goes_last _ _ _ _ _ _ _ _ _ _ _ (goes_as _ _ _ _ _ _ _ (ap (λ xs. with_turns (based c.in-Base.at c.in-Base.base (map (value_of (g.E.Core.worker c.eval_args-in-Base.new.engine)) xs)) c.eval_args-in-Base.new.turns) (sym c.as_slice-in-Ok-eval_args.ensures.value)) (first_on _ _ _ _ _ _ _ _ _ _ e c.in-Ok-eval_args.ensures.ends (omega arith))) (ends_operation _ _ _ _ _ _ _ c.base_call.ensures.ends) (omega arith)
 
 pub eval_expr-returns-in-Err-eval_args-clause-ends : goal.eval_expr-returns-in-Err-eval_args-clause-ends
 eval_expr-returns-in-Err-eval_args-clause-ends g t c =
@@ -234,29 +173,20 @@ eval_expr-returns-in-Err-eval_args-clause-ends g t c =
 
 pub eval_expr-returns-in-Inject-clause-ends : goal.eval_expr-returns-in-Inject-clause-ends
 eval_expr-returns-in-Inject-clause-ends g t c =
-    let a = around_of c.args.here.now.around in
-    let s = state_by (g.E.Core.worker c.args.engine.now) c.args.here.now.names.now in
-    let n = c.args.turns.now in
-    only_step _ _ _ _ _ _ _ _ _ (ap (λ x. mean a s x n) c.in-Inject.is) (ends_operation _ _ _ _ _ _ _ c.inject.ensures.ends) (omega arith)
+    only_step _ _ _ _ _ _ _ _ _ (ap (λ x. mean (around_of c.args.here.now.around) (state_by (g.E.Core.worker c.args.engine.now) c.args.here.now.names.now) x c.args.turns.now) c.in-Inject.is) (ends_operation _ _ _ _ _ _ _ c.inject.ensures.ends) (omega arith)
 
 pub eval_expr-returns-in-Ok-eval_expr-2-clause-ends : goal.eval_expr-returns-in-Ok-eval_expr-2-clause-ends
 eval_expr-returns-in-Ok-eval_expr-2-clause-ends g t c =
-    let h = c.args.here.now in
-    let e = means-pair (around_of h.around) (state_by (g.E.Core.worker c.args.engine.now) h.names.now) c.args.turns.now c.args.expr.now _ _ _ _ _ c.in-Pair.is c.deref.ensures c.deref-in-Ok-eval_expr.ensures in
-    let goes = before_right (around_of h.around) h.names.now c.in-Pair.at c.deref.result.now c.deref-in-Ok-eval_expr.result.now c.in-Ok-eval_expr.first c.requires.standing e c.in-Ok-eval_expr.ensures.ends in
-    let v = g.E.Core.worker c.eval_expr.new.engine in
+    let e = means-pair (around_of c.args.here.now.around) (state_by (g.E.Core.worker c.args.engine.now) c.args.here.now.names.now) c.args.turns.now c.args.expr.now _ _ _ _ _ c.in-Pair.is c.deref.ensures c.deref-in-Ok-eval_expr.ensures in
+    let goes = before_right (around_of c.args.here.now.around) c.args.here.now.names.now c.in-Pair.at c.deref.result.now c.deref-in-Ok-eval_expr.result.now c.in-Ok-eval_expr.first c.requires.standing e c.in-Ok-eval_expr.ensures.ends in
     let u = g.E.Core.worker c.eval_expr-in-Ok-eval_expr.new.engine in
-    let k = c.eval_expr-in-Ok-eval_expr.new.turns in
-    let left = sym (value_kept v u c.in-Ok-eval_expr.first c.in-Ok-eval_expr-2.ensures.ends.keeps c.in-Ok-eval_expr.ensures.fits) in
-    let then = goes_as _ _ _ _ _ _ _ (ap (λ x. with_turns (paired c.in-Pair.at x (value_of u c.in-Ok-eval_expr-2.second)) k) left) (goes_on _ _ _ _ _ _ _ _ _ _ _ _ goes c.in-Ok-eval_expr-2.ensures.ends (omega arith)) in
+    let then = goes_as _ _ _ _ _ _ _ (ap (λ x. with_turns (paired c.in-Pair.at x (value_of u c.in-Ok-eval_expr-2.second)) c.eval_expr-in-Ok-eval_expr.new.turns) (sym (value_kept (g.E.Core.worker c.eval_expr.new.engine) u c.in-Ok-eval_expr.first c.in-Ok-eval_expr-2.ensures.ends.keeps c.in-Ok-eval_expr.ensures.fits))) (goes_on _ _ _ _ _ _ _ _ _ _ _ _ goes c.in-Ok-eval_expr-2.ensures.ends (omega arith)) in
     goes_last _ _ _ _ _ _ _ _ _ _ _ then (ends_operation _ _ _ _ _ _ _ c.pair.ensures.ends) (omega arith)
 
 pub eval_expr-returns-in-Err-eval_expr-2-clause-ends : goal.eval_expr-returns-in-Err-eval_expr-2-clause-ends
 eval_expr-returns-in-Err-eval_expr-2-clause-ends g t c =
-    let h = c.args.here.now in
-    let e = means-pair (around_of h.around) (state_by (g.E.Core.worker c.args.engine.now) h.names.now) c.args.turns.now c.args.expr.now _ _ _ _ _ c.in-Pair.is c.deref.ensures c.deref-in-Ok-eval_expr.ensures in
-    let goes = before_right (around_of h.around) h.names.now c.in-Pair.at c.deref.result.now c.deref-in-Ok-eval_expr.result.now c.in-Ok-eval_expr.first c.requires.standing e c.in-Ok-eval_expr.ensures.ends in
-    goes_err _ _ _ _ _ _ _ _ _ _ _ _ _ _ goes c.in-Err-eval_expr-2.ensures.ends
+    let e = means-pair (around_of c.args.here.now.around) (state_by (g.E.Core.worker c.args.engine.now) c.args.here.now.names.now) c.args.turns.now c.args.expr.now _ _ _ _ _ c.in-Pair.is c.deref.ensures c.deref-in-Ok-eval_expr.ensures in
+    goes_err _ _ _ _ _ _ _ _ _ _ _ _ _ _ (before_right (around_of c.args.here.now.around) c.args.here.now.names.now c.in-Pair.at c.deref.result.now c.deref-in-Ok-eval_expr.result.now c.in-Ok-eval_expr.first c.requires.standing e c.in-Ok-eval_expr.ensures.ends) c.in-Err-eval_expr-2.ensures.ends
 
 pub eval_expr-returns-in-Err-eval_expr-clause-ends : goal.eval_expr-returns-in-Err-eval_expr-clause-ends
 eval_expr-returns-in-Err-eval_expr-clause-ends g t c =
@@ -280,15 +210,9 @@ eval_expr-returns-in-Err-eval_expr-4-clause-ends g t c =
 
 pub eval_expr-returns-in-Ok-eval_expr-5-clause-ends : goal.eval_expr-returns-in-Ok-eval_expr-5-clause-ends
 eval_expr-returns-in-Ok-eval_expr-5-clause-ends g t c =
-    let a = around_of c.args.here.now.around in
-    let s = state_by (g.E.Core.worker c.args.engine.now) c.args.here.now.names.now in
-    let n = c.args.turns.now in
-    let w = g.E.Core.worker c.args.engine.now in
     let v = g.E.Core.worker c.eval_expr-in-Chain.new.engine in
-    let ls = c.as_slice-in-Ok-eval_expr-5.result.now in
-    let e = means-chain a s n c.args.expr.now c.in-Chain.first c.in-Chain.rest c.deref-in-Chain.result.now ls c.in-Chain.is c.deref-in-Chain.ensures c.as_slice-in-Ok-eval_expr-5.ensures.value in
-    let kept = sym (state_kept w v c.args.here.now.names.now c.in-Ok-eval_expr-5.ensures.ends.keeps c.requires.standing) in
-    let next = ap (λ y. mean_by a y (value_of v c.in-Ok-eval_expr-5.value) ls c.eval_expr-in-Chain.new.turns) kept in
+    let e = means-chain (around_of c.args.here.now.around) (state_by (g.E.Core.worker c.args.engine.now) c.args.here.now.names.now) c.args.turns.now c.args.expr.now c.in-Chain.first c.in-Chain.rest c.deref-in-Chain.result.now c.as_slice-in-Ok-eval_expr-5.result.now c.in-Chain.is c.deref-in-Chain.ensures c.as_slice-in-Ok-eval_expr-5.ensures.value in
+    let next = ap (λ y. mean_by (around_of c.args.here.now.around) y (value_of v c.in-Ok-eval_expr-5.value) c.as_slice-in-Ok-eval_expr-5.result.now c.eval_expr-in-Chain.new.turns) (sym (state_kept (g.E.Core.worker c.args.engine.now) v c.args.here.now.names.now c.in-Ok-eval_expr-5.ensures.ends.keeps c.requires.standing)) in
     goes_last _ _ _ _ _ _ _ _ _ _ _ (goes_as _ _ _ _ _ _ _ next (first_on _ _ _ _ _ _ _ _ _ _ e c.in-Ok-eval_expr-5.ensures.ends (omega arith))) c.eval_links.ensures.ends (omega arith)
 
 pub eval_expr-returns-in-Err-eval_expr-5-clause-ends : goal.eval_expr-returns-in-Err-eval_expr-5-clause-ends
@@ -298,37 +222,26 @@ eval_expr-returns-in-Err-eval_expr-5-clause-ends g t c =
 -- ---- links
 pub eval_links-links-init : goal.eval_links-links-init
 eval_links-links-init g t c =
-    let w = g.E.Core.worker c.args.engine.now in
-    let a = around_of c.args.here.now.around in
-    let n = c.args.turns.now in
-    record { goes = goes_start w n _ (mean_by a (state_by w c.args.here.now.names.now) (value_of w c.args.so_far.now) c.args.rest.now n); stands = c.requires.value }
+    record { goes = goes_start (g.E.Core.worker c.args.engine.now) c.args.turns.now _ (mean_by (around_of c.args.here.now.around) (state_by (g.E.Core.worker c.args.engine.now) c.args.here.now.names.now) (value_of (g.E.Core.worker c.args.engine.now) c.args.so_far.now) c.args.rest.now c.args.turns.now); stands = c.requires.value }
 
 pub eval_links-eval_expr-requires : goal.eval_links-eval_expr-requires
 eval_links-eval_expr-requires g t c κs within =
-    let w = g.E.Core.worker c.args.engine.now in
-    let v = g.E.Core.worker c.links.engine in
     let ls = c.args.rest.now in
     let less : weight c.next-item.result.right ≤ weight_of_links ls = weight_link ls c.links.next-index c.next-item.result c.next-item.result c.links-test.true c.next-item.is in
-    let stand : AllFit v c.args.here.now.names.now = all_fit_kept w v c.args.here.now.names.now c.links.invariant.goes.keeps c.requires.standing in
+    let stand : AllFit (g.E.Core.worker c.links.engine) c.args.here.now.names.now = all_fit_kept (g.E.Core.worker c.args.engine.now) (g.E.Core.worker c.links.engine) c.args.here.now.names.now c.links.invariant.goes.keeps c.requires.standing in
     (search (rules, less), search (rules, stand))
 
 pub eval_links-returns-in-Err-clause-ends : goal.eval_links-returns-in-Err-clause-ends
 eval_links-returns-in-Err-clause-ends g t c =
-    let l = c.links.invariant in
-    let here = before_link (around_of c.args.here.now.around) c.args.here.now.names.now _ _ _ _ c.links-test.true c.next-item.is c.requires.standing l.stands l.goes in
-    goes_err _ _ _ _ _ _ _ _ _ _ _ _ _ _ here c.in-Err.ensures.ends
+    goes_err _ _ _ _ _ _ _ _ _ _ _ _ _ _ (before_link (around_of c.args.here.now.around) c.args.here.now.names.now _ _ _ _ c.links-test.true c.next-item.is c.requires.standing c.links.invariant.stands c.links.invariant.goes) c.in-Err.ensures.ends
 
 pub eval_links-returns-in-Err-link-clause-ends : goal.eval_links-returns-in-Err-link-clause-ends
 eval_links-returns-in-Err-link-clause-ends g t c =
-    let l = c.links.invariant in
-    let then = before_operator (around_of c.args.here.now.around) c.args.here.now.names.now _ _ _ _ c.links-test.true c.next-item.is c.requires.standing l.stands l.goes _ c.in-Ok.ensures.ends in
-    goes_err _ _ _ _ _ _ _ _ _ _ _ _ _ _ then (ends_operation _ _ _ _ _ _ _ c.in-Err-link.ensures.ends)
+    goes_err _ _ _ _ _ _ _ _ _ _ _ _ _ _ (before_operator (around_of c.args.here.now.around) c.args.here.now.names.now _ _ _ _ c.links-test.true c.next-item.is c.requires.standing c.links.invariant.stands c.links.invariant.goes _ c.in-Ok.ensures.ends) (ends_operation _ _ _ _ _ _ _ c.in-Err-link.ensures.ends)
 
 pub eval_links-links-preserved : goal.eval_links-links-preserved
 eval_links-links-preserved g t c =
-    let l = c.links.invariant in
-    let then = before_operator (around_of c.args.here.now.around) c.args.here.now.names.now _ _ _ _ c.links-test.true c.next-item.is c.requires.standing l.stands l.goes _ c.in-Ok.ensures.ends in
-    record { goes = goes_with _ _ _ _ _ _ _ (omega arith) (goes_on _ _ _ _ _ _ _ _ _ _ _ _ then (ends_operation _ _ _ _ _ _ _ c.in-Ok-link.ensures.ends) (omega arith)); stands = c.in-Ok-link.ensures.fits }
+    record { goes = goes_with _ _ _ _ _ _ _ (omega arith) (goes_on _ _ _ _ _ _ _ _ _ _ _ _ (before_operator (around_of c.args.here.now.around) c.args.here.now.names.now _ _ _ _ c.links-test.true c.next-item.is c.requires.standing c.links.invariant.stands c.links.invariant.goes _ c.in-Ok.ensures.ends) (ends_operation _ _ _ _ _ _ _ c.in-Ok-link.ensures.ends) (omega arith)); stands = c.in-Ok-link.ensures.fits }
 
 -- ---- statements
 pub run_stmt-returns-in-Err-clause-ends : goal.run_stmt-returns-in-Err-clause-ends
@@ -346,20 +259,18 @@ run_stmt-returns-in-Err-test_of-clause-ends g t c =
 
 pub run_stmt-run_stmts-requires : goal.run_stmt-run_stmts-requires
 run_stmt-run_stmts-requires g t c κs within =
-    let w = g.E.Core.worker c.args.engine.now in
     let v = g.E.Core.worker c.test_of.new.engine in
     let all : weight_stmt c.args.stmt.now ≡ weight c.in-If.test + (weight_by c.in-If.yes.items + weight_by c.in-If.no.items) + 1 = ap weight_stmt c.in-If.is ∙ weight-if c.in-If.at c.in-If.test c.in-If.yes c.in-If.no in
     let part : weight_by c.as_slice-stmts.result.now ≡ weight_by c.in-If.yes.items = ap weight_by c.as_slice-stmts.ensures.value in
-    let stand : AllFit v c.args.names.now.items = all_fit_kept w v c.args.names.now.items c.in-Ok-test_of.ensures.ends.keeps c.requires.standing in
+    let stand : AllFit v c.args.names.now.items = all_fit_kept (g.E.Core.worker c.args.engine.now) v c.args.names.now.items c.in-Ok-test_of.ensures.ends.keeps c.requires.standing in
     (search (rules, all, part), (search rules, stand))
 
 pub run_stmt-run_stmts-requires-else-holds : goal.run_stmt-run_stmts-requires-else-holds
 run_stmt-run_stmts-requires-else-holds g t c κs within =
-    let w = g.E.Core.worker c.args.engine.now in
     let v = g.E.Core.worker c.test_of.new.engine in
     let all : weight_stmt c.args.stmt.now ≡ weight c.in-If.test + (weight_by c.in-If.yes.items + weight_by c.in-If.no.items) + 1 = ap weight_stmt c.in-If.is ∙ weight-if c.in-If.at c.in-If.test c.in-If.yes c.in-If.no in
     let part : weight_by c.as_slice-stmts-else-holds.result.now ≡ weight_by c.in-If.no.items = ap weight_by c.as_slice-stmts-else-holds.ensures.value in
-    let stand : AllFit v c.args.names.now.items = all_fit_kept w v c.args.names.now.items c.in-Ok-test_of.ensures.ends.keeps c.requires.standing in
+    let stand : AllFit v c.args.names.now.items = all_fit_kept (g.E.Core.worker c.args.engine.now) v c.args.names.now.items c.in-Ok-test_of.ensures.ends.keeps c.requires.standing in
     (search (rules, all, part), (search rules, stand))
 
 pub run_stmt-returns-in-Ok-clause-ends : goal.run_stmt-returns-in-Ok-clause-ends
@@ -367,17 +278,13 @@ run_stmt-returns-in-Ok-clause-ends g t c =
     let w = g.E.Core.worker c.args.engine.now in
     let a = around_of c.args.around.now in
     let s = state_by w c.args.names.now.items in
-    let n = c.args.turns.now in
-    let e : run a c.args.stmt.now s n ≡ and_then (mean a (state_by w c.as_slice.result.now) c.in-Set.value n) (λ r m. got (assigned c.in-Set.name r s) m) =
-    ap (λ x. run a x s n) c.in-Set.is ∙ ap (λ xs. and_then (mean a (state_by w xs) c.in-Set.value n) (λ r m. got (assigned c.in-Set.name r s) m)) (sym c.as_slice.ensures.value) in
+    let e : run a c.args.stmt.now s c.args.turns.now ≡ and_then (mean a (state_by w c.as_slice.result.now) c.in-Set.value c.args.turns.now) (λ r m. got (assigned c.in-Set.name r s) m) =
+    ap (λ x. run a x s c.args.turns.now) c.in-Set.is ∙ ap (λ xs. and_then (mean a (state_by w xs) c.in-Set.value c.args.turns.now) (λ r m. got (assigned c.in-Set.name r s) m)) (sym c.as_slice.ensures.value) in
     let u = g.E.Core.worker c.eval_expr.new.engine in
-    let r = value_of u c.in-Ok.own in
     let kept : s ≡ state_by u c.args.names.now.items = sym (state_kept w u c.args.names.now.items c.in-Ok.ensures.ends.keeps c.requires.standing) in
     let owe : names_owe g.E.Core.least c.as_slice.result.now ≡ names_owe g.E.Core.least c.args.names.now.items = ap (names_owe g.E.Core.least) c.as_slice.ensures.value in
-    let goes = goes_as _ _ _ _ _ _ _ (ap (λ x. got (assigned c.in-Set.name r x) c.eval_expr.new.turns) kept) (first_on _ _ _ _ _ _ _ _ _ _ e c.in-Ok.ensures.ends (omega (arith, owe))) in
     let noted = ok_map c.assign.result (state_assigned u c.args.names.now.items c.assign.new.names.items c.in-Set.name c.in-Ok.own c.in-Ok.ensures.fits) c.assign.ensures.assigned in
-    let owes = ok_map c.assign.result (λ f. f g.E.Core.least) c.assign.ensures.owes in
-    ends_noted _ _ _ _ _ _ _ _ c.assign.result noted owes c.assign.ensures.memory goes
+    ends_noted _ _ _ _ _ _ _ _ c.assign.result noted (ok_map c.assign.result (λ f. f g.E.Core.least) c.assign.ensures.owes) c.assign.ensures.memory (goes_as _ _ _ _ _ _ _ (ap (λ x. got (assigned c.in-Set.name (value_of u c.in-Ok.own) x) c.eval_expr.new.turns) kept) (first_on _ _ _ _ _ _ _ _ _ _ e c.in-Ok.ensures.ends (omega (arith, owe))))
 
 pub run_stmt-returns-in-While-clause-ends : goal.run_stmt-returns-in-While-clause-ends
 run_stmt-returns-in-While-clause-ends g t c =
@@ -385,21 +292,13 @@ run_stmt-returns-in-While-clause-ends g t c =
 
 pub run_stmt-returns-then-holds-clause-ends : goal.run_stmt-returns-then-holds-clause-ends
 run_stmt-returns-then-holds-clause-ends g t c =
-    let a = around_of c.args.around.now in
-    let w = g.E.Core.worker c.args.engine.now in
-    let names = c.args.names.now.items in
-    let e = runs-if a w names c.args.turns.now c.args.stmt.now c.as_slice-in-If.result.now _ _ _ _ c.as_slice-stmts.result.now _ c.in-If.is c.as_slice-in-If.ensures.value c.as_slice-stmts.ensures.value refl in
-    let goes = before_branch a names _ c.in-If.at c.in-If.test c.as_slice-stmts.result.now c.in-If.no.items _ true c.requires.standing c.as_slice-in-If.ensures.value c.if-holds.true e c.in-Ok-test_of.ensures.ends in
-    goes_last _ _ _ _ _ _ _ _ _ _ _ goes c.run_stmts.ensures.ends (omega arith)
+    let e = runs-if (around_of c.args.around.now) (g.E.Core.worker c.args.engine.now) c.args.names.now.items c.args.turns.now c.args.stmt.now c.as_slice-in-If.result.now _ _ _ _ c.as_slice-stmts.result.now _ c.in-If.is c.as_slice-in-If.ensures.value c.as_slice-stmts.ensures.value refl in
+    goes_last _ _ _ _ _ _ _ _ _ _ _ (before_branch (around_of c.args.around.now) c.args.names.now.items _ c.in-If.at c.in-If.test c.as_slice-stmts.result.now c.in-If.no.items _ true c.requires.standing c.as_slice-in-If.ensures.value c.if-holds.true e c.in-Ok-test_of.ensures.ends) c.run_stmts.ensures.ends (omega arith)
 
 pub run_stmt-returns-else-holds-clause-ends : goal.run_stmt-returns-else-holds-clause-ends
 run_stmt-returns-else-holds-clause-ends g t c =
-    let a = around_of c.args.around.now in
-    let w = g.E.Core.worker c.args.engine.now in
-    let names = c.args.names.now.items in
-    let e = runs-if a w names c.args.turns.now c.args.stmt.now c.as_slice-in-If.result.now _ _ _ _ _ c.as_slice-stmts-else-holds.result.now c.in-If.is c.as_slice-in-If.ensures.value refl c.as_slice-stmts-else-holds.ensures.value in
-    let goes = before_branch a names _ c.in-If.at c.in-If.test c.in-If.yes.items c.as_slice-stmts-else-holds.result.now _ false c.requires.standing c.as_slice-in-If.ensures.value c.if-holds.false e c.in-Ok-test_of.ensures.ends in
-    goes_last _ _ _ _ _ _ _ _ _ _ _ goes c.run_stmts-else-holds.ensures.ends (omega arith)
+    let e = runs-if (around_of c.args.around.now) (g.E.Core.worker c.args.engine.now) c.args.names.now.items c.args.turns.now c.args.stmt.now c.as_slice-in-If.result.now _ _ _ _ _ c.as_slice-stmts-else-holds.result.now c.in-If.is c.as_slice-in-If.ensures.value refl c.as_slice-stmts-else-holds.ensures.value in
+    goes_last _ _ _ _ _ _ _ _ _ _ _ (before_branch (around_of c.args.around.now) c.args.names.now.items _ c.in-If.at c.in-If.test c.in-If.yes.items c.as_slice-stmts-else-holds.result.now _ false c.requires.standing c.as_slice-in-If.ensures.value c.if-holds.false e c.in-Ok-test_of.ensures.ends) c.run_stmts-else-holds.ensures.ends (omega arith)
 
 pub run_stmts-run_stmt-requires : goal.run_stmts-run_stmt-requires
 run_stmts-run_stmt-requires g t c κs within =
@@ -409,15 +308,11 @@ run_stmts-run_stmt-requires g t c κs within =
 
 pub run_stmts-returns-in-Err-clause-ends : goal.run_stmts-returns-in-Err-clause-ends
 run_stmts-returns-in-Err-clause-ends g t c =
-    let v = g.E.Core.worker c.stmts.engine in
-    let here = goes_as _ _ _ _ _ _ _ (run_next (around_of c.args.around.now) c.args.stmts.now c.stmts.stmt-index c.stmt-item.result (state_by v c.stmts.names.items) c.stmts.turns c.stmts-test.true c.stmt-item.is) c.stmts.invariant.goes in
-    goes_err _ _ _ _ _ _ _ _ _ _ _ _ _ _ here c.in-Err.ensures.ends
+    goes_err _ _ _ _ _ _ _ _ _ _ _ _ _ _ (goes_as _ _ _ _ _ _ _ (run_next (around_of c.args.around.now) c.args.stmts.now c.stmts.stmt-index c.stmt-item.result (state_by (g.E.Core.worker c.stmts.engine) c.stmts.names.items) c.stmts.turns c.stmts-test.true c.stmt-item.is) c.stmts.invariant.goes) c.in-Err.ensures.ends
 
 pub run_stmts-stmts-preserved : goal.run_stmts-stmts-preserved
 run_stmts-stmts-preserved g t c =
-    let v = g.E.Core.worker c.stmts.engine in
-    let here = goes_as _ _ _ _ _ _ _ (run_next (around_of c.args.around.now) c.args.stmts.now c.stmts.stmt-index c.stmt-item.result (state_by v c.stmts.names.items) c.stmts.turns c.stmts-test.true c.stmt-item.is) c.stmts.invariant.goes in
-    record { goes = goes_with _ _ _ _ _ _ _ (omega arith) (goes_on _ _ _ _ _ _ _ _ _ _ _ _ here c.in-Ok.ensures.ends (omega arith)); stands = c.in-Ok.ensures.fits }
+    record { goes = goes_with _ _ _ _ _ _ _ (omega arith) (goes_on _ _ _ _ _ _ _ _ _ _ _ _ (goes_as _ _ _ _ _ _ _ (run_next (around_of c.args.around.now) c.args.stmts.now c.stmts.stmt-index c.stmt-item.result (state_by (g.E.Core.worker c.stmts.engine) c.stmts.names.items) c.stmts.turns c.stmts-test.true c.stmt-item.is) c.stmts.invariant.goes) c.in-Ok.ensures.ends (omega arith)); stands = c.in-Ok.ensures.fits }
 
 -- ---- loops
 pub run_while-turns-init : goal.run_while-turns-init
@@ -426,41 +321,27 @@ run_while-turns-init g t c =
 
 pub run_while-returns-in-Err-clause-ends : goal.run_while-returns-in-Err-clause-ends
 run_while-returns-in-Err-clause-ends g t c =
-    let a = around_of c.args.around.now in
-    let again = c.args.again in
-    let l = c.turns.invariant in
-    test_halts again.at (mean_test a again.at again.test.now) (run_by a again.body.now) l.bound.0 c.as_slice.ensures.value l.stands l.bound.2 _ _ _ _ _ c.in-Err.ensures.ends
+    test_halts c.args.again.at (mean_test (around_of c.args.around.now) c.args.again.at c.args.again.test.now) (run_by (around_of c.args.around.now) c.args.again.body.now) c.turns.invariant.bound.0 c.as_slice.ensures.value c.turns.invariant.stands c.turns.invariant.bound.2 _ _ _ _ _ c.in-Err.ensures.ends
 
 pub run_while-returns-then-not-holds-clause-ends : goal.run_while-returns-then-not-holds-clause-ends
 run_while-returns-then-not-holds-clause-ends g t c =
-    let a = around_of c.args.around.now in
-    let again = c.args.again in
-    let l = c.turns.invariant in
-    loop_ends again.at (mean_test a again.at again.test.now) (run_by a again.body.now) l.bound.0 c.as_slice.ensures.value l.stands l.bound.2 _ c.in-Ok.ensures.ends _ c.if-not-holds.true
+    loop_ends c.args.again.at (mean_test (around_of c.args.around.now) c.args.again.at c.args.again.test.now) (run_by (around_of c.args.around.now) c.args.again.body.now) c.turns.invariant.bound.0 c.as_slice.ensures.value c.turns.invariant.stands c.turns.invariant.bound.2 _ c.in-Ok.ensures.ends _ c.if-not-holds.true
 
 pub run_while-returns-then-turns-eq0-clause-ends : goal.run_while-returns-then-turns-eq0-clause-ends
 run_while-returns-then-turns-eq0-clause-ends g t c =
-    let a = around_of c.args.around.now in
-    let again = c.args.again in
-    let l = c.turns.invariant in
-    no_turn_left again.at (mean_test a again.at again.test.now) (run_by a again.body.now) l.bound.0 c.as_slice.ensures.value l.stands l.bound.2 _ c.in-Ok.ensures.ends _ _ c.if-not-holds.false c.if-turns-eq0.true
+    no_turn_left c.args.again.at (mean_test (around_of c.args.around.now) c.args.again.at c.args.again.test.now) (run_by (around_of c.args.around.now) c.args.again.body.now) c.turns.invariant.bound.0 c.as_slice.ensures.value c.turns.invariant.stands c.turns.invariant.bound.2 _ c.in-Ok.ensures.ends _ _ c.if-not-holds.false c.if-turns-eq0.true
 
 pub run_while-turns-preserved : goal.run_while-turns-preserved
 run_while-turns-preserved g t c =
-    let a = around_of c.args.around.now in
-    let again = c.args.again in
     let l = c.turns.invariant in
     record {
-      bound = one_round again.at (mean_test a again.at again.test.now) (run_by a again.body.now) l.bound.0 c.as_slice.ensures.value l.stands l.bound.2 _ c.in-Ok.ensures.ends _ _ c.if-not-holds.false c.if-turns-eq0.false l.bound.1 c.in-Ok-run_stmts.ensures.ends;
+      bound = one_round c.args.again.at (mean_test (around_of c.args.around.now) c.args.again.at c.args.again.test.now) (run_by (around_of c.args.around.now) c.args.again.body.now) l.bound.0 c.as_slice.ensures.value l.stands l.bound.2 _ c.in-Ok.ensures.ends _ _ c.if-not-holds.false c.if-turns-eq0.false l.bound.1 c.in-Ok-run_stmts.ensures.ends;
       stands = c.in-Ok-run_stmts.ensures.fits;
     }
 
 pub run_while-returns-in-Err-run_stmts-clause-ends : goal.run_while-returns-in-Err-run_stmts-clause-ends
 run_while-returns-in-Err-run_stmts-clause-ends g t c =
-    let a = around_of c.args.around.now in
-    let again = c.args.again in
-    let l = c.turns.invariant in
-    body_halts again.at (mean_test a again.at again.test.now) (run_by a again.body.now) l.bound.0 c.as_slice.ensures.value l.stands l.bound.2 _ c.in-Ok.ensures.ends _ _ _ _ _ _ _ c.if-not-holds.false c.if-turns-eq0.false c.in-Err-run_stmts.ensures.ends
+    body_halts c.args.again.at (mean_test (around_of c.args.around.now) c.args.again.at c.args.again.test.now) (run_by (around_of c.args.around.now) c.args.again.body.now) c.turns.invariant.bound.0 c.as_slice.ensures.value c.turns.invariant.stands c.turns.invariant.bound.2 _ c.in-Ok.ensures.ends _ _ _ _ _ _ _ c.if-not-holds.false c.if-turns-eq0.false c.in-Err-run_stmts.ensures.ends
 
 -- ---- what stands
 pub run_stmt-returns-in-Ok-clause-fits : goal.run_stmt-returns-in-Ok-clause-fits
