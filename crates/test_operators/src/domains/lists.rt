@@ -1,7 +1,7 @@
 //! Lists of pairs, pairings and the elements of vectors over relations in a node table, compared with slow lists.
 #![tactic(auto, using(crate::proofs::Later::rel_later, crate::proofs::Later::given_stands, crate::proofs::Later::wanted_stands, crate::proofs::Listing::within_more))]
 
-ghost use Rattle.std.specs.Prelude.{◌≤◌};
+ghost use Rattle.std.specs.Prelude.{◌≤◌, ◌<◌};
 ghost use Rattle.rel_model.specs.Relation.{size_limit};
 ghost use Rattle.rel_model.specs.Listed.{AreWithin};
 ghost use Rattle.rel_model.specs.Worker.{Keeps};
@@ -11,6 +11,7 @@ use crate::domains::trial::{Trial, on_a_crew};
 use crate::grids::{cells_of, put, some_of, stepped};
 use crate::made::{is_given, is_made, of_pairs};
 use rel_domains::{fork, from_pairs, inj};
+use rel_listing::pairs_of;
 use rel_model::Shape;
 use rel_model::quads_trait::Quads;
 use std::alloc::Global;
@@ -108,6 +109,80 @@ pub(crate) fn larger_lists<Q: Quads>(rt: &impl Abort, alloc: Global, q: &mut Q) 
 #[test]
 fn relations_of_sizes_up_to_40_are_made_of_lists_in_any_order(rt: HostRuntime) {
     on_a_crew(&rt, rt.alloc(), Trial::LargerLists);
+}
+
+/// Pairs by chance of a square with this many rows, each third one with its neighbour.
+fn by_chance(rt: &impl Abort, alloc: Global, rows: u32, count: u32) -> Vec<(u32, u32)>
+    requires { 0 < rows }
+{
+    let mut pairs = Vec::new(alloc);
+    let mut state = 5;
+    'pairs: for k in 0..count {
+        state = stepped(state);
+        let i = (state >> 40) as u32 & (rows - 1);
+        state = stepped(state);
+        let j = (state >> 40) as u32 & (rows - 1);
+        put(rt, &mut pairs, (i, j));
+        if k % 3 == 0 {
+            put(rt, &mut pairs, (i, j ^ 1));
+        }
+    }
+    pairs
+}
+
+/// The pairs of a list in order, each once.
+fn once(rt: &impl Abort, alloc: Global, pairs: &[(u32, u32)]) -> Vec<(u32, u32)> {
+    let mut sorted = Vec::new(alloc);
+    'copies: for pair in pairs {
+        put(rt, &mut sorted, *pair);
+    }
+    sorted.sort_unstable();
+    let mut out = Vec::new(alloc);
+    let mut last = (u32::MAX, u32::MAX);
+    'sorted: for pair in &sorted {
+        if *pair != last {
+            put(rt, &mut out, *pair);
+        }
+        last = *pair;
+    }
+    out
+}
+
+/// Asserts that the relation of listed pairs has these pairs in order.
+fn are_listed_again<Q: Quads>(
+    rt: &impl Abort,
+    alloc: Global,
+    q: &mut Q,
+    shape: Shape,
+    listed: &[(u32, u32)],
+    wanted: &[(u32, u32)],
+)
+    requires row { shape.rows ≤ size_limit }
+    requires col { shape.cols ≤ size_limit }
+{
+    let list = within(rt, alloc, shape.rows, shape.cols, listed);
+    let Ok(r) = from_pairs(alloc, q, shape, list.as_slice()) else {
+        panic!(rt; "no room")
+    };
+    let Ok(found) = pairs_of(alloc, q, r) else {
+        panic!(rt; "no memory")
+    };
+    assert!(rt; found.as_slice() == wanted, "{} rows", shape.rows);
+}
+
+/// Asserts that relations are made from lists of thousands of pairs, which stand alone in their squares or side by side.
+pub(crate) fn long_lists<Q: Quads>(rt: &impl Abort, alloc: Global, q: &mut Q) {
+    'sizes: for rows in [1 << 9, 1 << 14, 1 << 20] {
+        assert!(rt; 0 < rows && rows <= 1 << 20);
+        let listed = by_chance(rt, alloc, rows, 6000);
+        let wanted = once(rt, alloc, &listed);
+        are_listed_again(rt, alloc, q, Shape { rows, cols: rows }, &listed, &wanted);
+    }
+}
+
+#[test]
+fn relations_are_made_of_long_lists(rt: HostRuntime) {
+    on_a_crew(&rt, rt.alloc(), Trial::LongLists);
 }
 
 /// Asserts that the pairing of two relations with this many rows, listed by row and then by column, is that of their
