@@ -3,13 +3,14 @@
 
     bench/peers/run.py [ROUNDS] [GROUP..]      the groups are those of works.py, start and sessions
 
-The peers are matrices of bits in plain C (dense.c), binary decision diagrams (buddy.c, over BuDDy: Debian's libbdd-dev)
-and sparse matrices (graphblas.c, over SuiteSparse:GraphBLAS: libgraphblas-dev). One that is not installed is left out,
-with a line that says so. Each run is a process of its own, and the peers take turns within a round. A row has two
-numbers of each, in milliseconds of the processor: the shortest of ROUNDS (3) whole runs, and what is left of it without
-the shortest run that starts, reads the same files, and makes nothing of them. The counts that they print have to be
-equal. The program runs in the smallest table of 2^20, 2^22 and 2^24 node words that is not full in the end. A run over
-120 seconds is ended, and shown as `-`. RELVIEW in the environment names another program.
+The peers are matrices of bits in plain C (dense.c), binary decision diagrams (buddy.c, over BuDDy: Debian's
+libbdd-dev), sparse matrices (graphblas.c, over SuiteSparse:GraphBLAS: libgraphblas-dev), and the steps that the program
+itself takes on sparse relations, in plain C (lists.c). One that is not installed is left out, with a line that says so.
+Each run is a process of its own, and the peers take turns within a round. A row has two numbers of each, in
+milliseconds of the processor: the shortest of ROUNDS (3) whole runs, and what is left of it without the shortest run
+that starts, reads the same files, and makes nothing of them. The counts that they print have to be equal. The program
+runs in the smallest table of 2^20, 2^22 and 2^24 node words that is not full in the end, and lists.c in one of the same
+size. A run over 120 seconds is ended, and shown as `-`. RELVIEW in the environment names another program.
 """
 import os
 import subprocess
@@ -27,7 +28,13 @@ TOP = HERE.parent.parent
 RELVIEW = Path(os.environ.get("RELVIEW", TOP / "crates" / "relview" / "out" / "relview")).resolve()
 SECONDS = 120
 BITS = (20, 22, 24)
-FLAGS = {"dense": ["-O3", "-march=native"], "buddy": ["-lbdd"], "graphblas": ["-lgraphblas"]}
+FLAGS = {
+    "dense": ["-O3", "-march=native"],
+    "buddy": ["-lbdd"],
+    "graphblas": ["-lgraphblas"],
+    "lists": ["-O3", "-march=x86-64-v2"],
+}
+READERS = {"graphblas", "lists"}
 LETTERS = "RST"
 
 
@@ -109,8 +116,9 @@ def commands_of(work, folder, peers, files):
     for peer in work.peers:
         if peer in peers:
             name = "inclusion" if work.group == "named" else work.group
-            before = ["read", *pairs] if "graphblas" in work.peers else ["start"]
-            commands[peer] = ([peers[peer], name, *pairs, *work.words], [peers[peer], *before])
+            given = [ours[2], *pairs] if peer == "lists" else pairs
+            before = ["read", *given] if READERS & set(work.peers) else ["start"]
+            commands[peer] = ([peers[peer], name, *given, *work.words], [peers[peer], *before])
     return commands
 
 

@@ -1,7 +1,8 @@
 """What bench/peers/run.py compares: each work with its script, the relations of its files, and who else does it.
 
 A peer is given the work's name, the files of pairs, and sometimes one number more. It is left out where its matrices
-or diagrams would not fit, or where it has no way to do the work.
+or diagrams would not fit, or where it has no way to do the work. The program's own steps stand beside it only where it
+takes them: on large sparse relations.
 """
 from dataclasses import dataclass
 
@@ -45,6 +46,8 @@ REL V {size} 1 {{1:1}}. COUNT SEARCH({graphs}, V)."""
 ALL = ("dense", "buddy", "graphblas")
 SETS = ("dense", "buddy")
 MATRICES = ("dense", "graphblas")
+LISTS = ("graphblas", "lists")
+EVERY = (*ALL, "lists")
 
 
 @dataclass
@@ -65,17 +68,15 @@ def of_relations():
     closure, product = "COUNT trans(R).", "COUNT R*S."
     for size in (256, 1024):
         yield Work("closure", f"random, {size}, 2 a row", closure, ((steps, size, 2, 1),))
-    for size in (1024, 4096):
-        yield Work("closure", f"acyclic, {size}, 2 a row", closure, ((steps, size, 2, 1, True),))
-    yield Work("closure", "acyclic, 16384, 2 a row", closure, ((steps, 16384, 2, 1, True),), ("graphblas",))
+    for size, peers in ((1024, ALL), (4096, EVERY), (16384, LISTS)):
+        yield Work("closure", f"acyclic, {size}, 2 a row", closure, ((steps, size, 2, 1, True),), peers)
     yield Work("closure", "a cycle of 4096", closure, ((cycle, 4096),))
     for size in (4096, 100_000):
-        yield Work("closure", f"a tree of {size}", closure, ((tree, size, 1),), ("graphblas",))
-    for size, each in ((1024, 8), (4096, 8), (16384, 2)):
-        yield Work("product", f"{size}, {each} a row", product, ((steps, size, each, 1), (steps, size, each, 2)))
-    for size, each in ((65536, 2), (65536, 8), (2**19, 1)):
+        yield Work("closure", f"a tree of {size}", closure, ((tree, size, 1),), LISTS)
+    small = ((1024, 8, ALL), (4096, 8, ALL), (16384, 2, EVERY))
+    for size, each, peers in (*small, (65536, 2, LISTS), (65536, 8, LISTS), (2**19, 1, LISTS)):
         relations = ((steps, size, each, 1), (steps, size, each, 2))
-        yield Work("product", f"{size}, {each} a row", product, relations, ("graphblas",))
+        yield Work("product", f"{size}, {each} a row", product, relations, peers)
     quotient = "LET C = trans(R). COUNT syq(C, C)."
     yield Work("quotient", "of the closure of random 1024", quotient, ((steps, 1024, 2, 1),))
     for chance in (0.001, 0.01, 0.1):
@@ -143,7 +144,14 @@ def of_searches():
         graphs, images = ", ".join(letters), " | ".join(f"{letter}^*new" for letter in letters)
         relations = tuple((edges, size, count, seed) for seed, count in enumerate(counts, 1))
         script = SEARCH.format(graphs=graphs, images=images, size=size)
-        yield Work("search", f"random, {size} vertices, {sum(counts)} edges", script, relations, ("graphblas",))
+        yield Work("search", f"random, {size} vertices, {sum(counts)} edges", script, relations, LISTS)
+
+
+def of_listings():
+    """The listing of a million pairs by chance."""
+    for height in (14, 20):
+        relations = ((edges, 2**height, 1_000_000, 1),)
+        yield Work("listing", f"random, 1000000 pairs in 2^{height}", "LIST R. COUNT R.", relations, ("lists",))
 
 
 def works():
@@ -153,3 +161,4 @@ def works():
     for rows, cols, each, other in ((20, 1_000_000, 30_000, 30_000), (60, 4000, 200, 2000), (200, 4000, 80, 2000)):
         yield from of_thin(rows, cols, each, other)
     yield from of_searches()
+    yield from of_listings()
