@@ -2,10 +2,10 @@
 -- 1. Its place divided by the cells of a quarter tells the quarter in which it lies (`quotient`).
 -- 2. So it is one place cut into four parts, three of which are empty (`four_at`).
 -- 3. Where a worker gives the quad of one part, it gives the quads of all four: the others are the empty one (`given_if`).
-use Rattle.std.proofs.Common.{◌≡◌, ◌<◌, ◌≤◌, ◌+◌, ◌*◌, ◌/◌, ◌%◌, ◌&&◌, ◌∙◌, eqb, cond, ℕ, suc, zero, Bool, true, false, List, [], ◌∷◌, refl, sym, ap, subst, arith, Some}
+use Rattle.std.proofs.Common.{◌≡◌, ◌<◌, ◌≤◌, ◌+◌, ◌*◌, ◌/◌, ◌&&◌, ◌∙◌, eqb, cond, ℕ, suc, zero, Bool, true, false, List, [], ◌∷◌, refl, sym, ap, subst, arith, Some}
 use Rattle.std.proofs.lemmas.Nat.{div_below, mod_below, div-add-mod'}
 use Rattle.rel_model.specs.declared.Quad.{Quad}
-use Rattle.rel_model.specs.Cells.{Cells, no_cells}
+use Rattle.rel_model.specs.Cells.{no_cells}
 use Rattle.rel_model.specs.Worker.{Worker, GivesQuad}
 use Rattle.rel_model.proofs.TreeLaws.{same_cells}
 use Rattle.rel_domains.specs.Curve.{cells_at}

@@ -1,4 +1,4 @@
-use Rattle.std.proofs.Common.{◌≡◌, ◌+◌, ℕ, arith}
+use Rattle.std.proofs.Common.{◌+◌, arith}
 use Rattle.rel_domains.proofs.Listing.{cells_limit}
 use Rattle.rel_domains.proofs.Knowing.{knows_nothing, no_names}
 use Rattle.rel_domains.proofs.build.quad_of_places.Goals as goal

@@ -1,6 +1,5 @@
-use Rattle.std.proofs.Common.{◌≡◌, ◌≤◌, ◌<◌, ◌+◌, ◌-◌, ◌*◌, ◌^◌, ◌∙◌, ◌==◌, ℕ, [], ◌∷◌, true, refl, sym, ap, subst, arith}
+use Rattle.std.proofs.Common.{◌≡◌, ◌≤◌, ◌<◌, ◌+◌, ◌-◌, ◌*◌, ◌^◌, ◌∙◌, ◌==◌, ℕ, [], ◌∷◌, refl, sym, ap, subst, arith}
 use Rattle.std.proofs.lemmas.Bool.{eqb-true}
-use Rattle.rel_model.specs.declared.Quad.{Quad}
 use Rattle.rel_model.specs.Worker.{GivesQuad}
 use Rattle.rel_steps.proofs.Given.{gives_has}
 use Rattle.rel_steps.proofs.Making.{begun, goes_on, ends}

@@ -1,7 +1,7 @@
 use Rattle.std.proofs.Common.{◌≡◌, ◌≤◌, ◌<◌, ◌+◌, ◌*◌, ◌^◌, ◌/◌, ◌∙◌, sym, ap, subst, arith, ℕ}
 use Rattle.std.proofs.lemmas.Nat.{pow-add, mul-pow, pow_pos}
 use Rattle.rel_model.specs.Trees.{top_height}
-use Rattle.rel_domains.proofs.Single.{Quotient, quotient}
+use Rattle.rel_domains.proofs.Single.{quotient}
 use Rattle.rel_domains.proofs.lone.quarter_of.Goals as goal
 
 pub overflow_mul-result : goal.overflow_mul-result
