@@ -17,8 +17,8 @@ use rel_model::core_trait::Core;
 use rel_model::quads_trait::Quads;
 use rel_model::{Lack, Quad};
 
-/// The quad, `depth` heights above the leaves, of the cells whose places are listed in order; places count from `base`. Of
-/// single cells the names that are known are recalled.
+/// The quad, `depth` heights above the leaves, of the cells whose places are listed in order; places count from `base`.
+/// Names of quads of single cells are recalled where they are known.
 #[tactic(auto, unfolding(rel_model::specs::Trees::top_height), using(crate::proofs::Places::cells_step, crate::proofs::Places::power_step, crate::proofs::Places::some_cells))]
 fn build<Q: Quads>(
     q: &mut Q,

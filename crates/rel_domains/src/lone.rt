@@ -38,8 +38,8 @@ fn quarter_of(height: u8, place: u64) -> u64
     place >> (2 * height)
 }
 
-/// The quad, `depth` heights above the leaves, of the cell with this place; places count from `base`. Names that are known
-/// are recalled.
+/// The quad, `depth` heights above the leaves, of the cell with this place; places count from `base`. Its name is
+/// recalled where it is known.
 #[tactic(auto, unfolding(rel_model::specs::Trees::top_height), using(crate::proofs::Places::cells_step, crate::proofs::Places::power_step, crate::proofs::Places::some_cells))]
 pub fn lone<Q: Quads>(
     q: &mut Q,

@@ -1,5 +1,5 @@
 //! The names of the quads of single cells at one height, by the place of the cell, so that each is asked for once.
-ghost use Rattle.std.specs.Prelude.{◌≡◌, ◌≢◌, ◌<◌, ◌∷◌, ◌&&◌, ◌==◌, nat_lt, cond, ℕ, IfSome, length, get_or};
+ghost use Rattle.std.specs.Prelude.{◌≡◌, ◌≢◌, ◌<◌, ◌&&◌, ◌==◌, nat_lt, cond, ℕ, IfSome, length, get_or};
 
 use rel_model::Quad;
 
@@ -34,7 +34,8 @@ pub fn recalled(names: &[u32], depth: u8, height: u8, place: u64) -> Option<Quad
 pub fn note(names: &mut [u32], depth: u8, place: u64, name: u32)
     ensures size { length names.new ≡ length names.old }
     ensures names { (k : ℕ) → get_or names.new k 0
-        ≡ cond (depth == SINGLES_DEPTH && (nat_lt place (length names.old) && k == place)) name (get_or names.old k 0) }
+        ≡ cond (depth == SINGLES_DEPTH && (nat_lt place (length names.old) && k == place)) name
+        (get_or names.old k 0) }
 {
     let place = place as usize;
     if depth == SINGLES_DEPTH && place < names.len() {

@@ -12,8 +12,8 @@ use rel_model::{NoMemory, Quad, Quarters};
 /// How many quads a strip has at least if their words are read before the first is opened. A guess: it only costs time.
 const MANY: usize = 8;
 
-/// Reads the words of a strip's quads, whose quarters have this height, if they are many (prefetch). They lie all over the
-/// table, and opening the quads one by one would wait for each of them.
+/// Reads the words of a strip's quads, whose quarters have this height, if they are many (prefetch). They lie all over
+/// the table, and opening the quads one by one would wait for each of them.
 fn read_strip<Q: Quads>(q: &mut Q, strip: &[(Quad, u32)], height: u8)
     requires strip { IsStrip (Q.worker q.old) (height + 1) size_limit strip.now }
     requires low { Q.least ≤ height }

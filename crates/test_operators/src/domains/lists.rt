@@ -170,7 +170,8 @@ fn are_listed_again<Q: Quads>(
     assert!(rt; found.as_slice() == wanted, "{} rows", shape.rows);
 }
 
-/// Asserts that relations are made from lists of thousands of pairs, which stand alone in their squares or side by side.
+/// Asserts that relations are made from lists of thousands of pairs, which stand alone in their squares or side by
+/// side.
 pub(crate) fn long_lists<Q: Quads>(rt: &impl Abort, alloc: Global, q: &mut Q) {
     'sizes: for rows in [1 << 9, 1 << 14, 1 << 20] {
         assert!(rt; 0 < rows && rows <= 1 << 20);
