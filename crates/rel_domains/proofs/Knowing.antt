@@ -1,6 +1,6 @@
 -- Names of the quads of single cells that are kept.
 -- 1. A place counted from another base is the same cell (`from_base`).
--- 2. No name is known at first (`knows_nothing`); what is known stays so while a worker keeps its quads (`knows_later`).
+-- 2. No name is known at first (`knows_nothing`).
 -- 3. The name of a quad that was made may be noted under its place (`knows_noted`).
 use Rattle.std.proofs.Common.{◌≡◌, ◌≢◌, ◌<◌, ◌≤◌, ◌+◌, ◌-◌, ◌^◌, ◌&&◌, ◌||◌, ◌∙◌, eqb, ltb, cond, ℕ, suc, zero, Bool, true, false, List, [], ◌∷◌, refl, sym, ap, subst, arith, inl, inr, length, get_or, replicate}
 use Rattle.std.proofs.lemmas.Bool.{cases_Bool, eqb-true, false≢true}
@@ -25,9 +25,6 @@ pub no_names : (n k : ℕ) → get_or {A = ℕ} (replicate n 0) k 0 ≡ 0
 no_names zero k = refl
 no_names (suc n) zero = refl
 no_names (suc n) (suc k) = no_names n k
-
-pub knows_later : {v w : Worker} {least d : ℕ} {names : List ℕ} → Keeps v w → KnowsSingles v least d names → KnowsSingles w least d names
-knows_later {v} {w} keeps s = record { named = λ k l n. gives_later v w _ _ _ keeps (s.named k l n) }
 
 both_true : (a b : Bool) → (a && b) ≡ true → (a ≡ true) × (b ≡ true)
 both_true true true e = (refl, refl)
