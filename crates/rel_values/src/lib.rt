@@ -2,6 +2,7 @@
 #![tactic(auto)]
 
 mod boole;
+mod by_list;
 mod choice;
 mod comparing;
 mod counting;
@@ -14,6 +15,7 @@ mod sampling;
 mod shaping;
 mod standing;
 mod transposing;
+mod turned_products;
 mod univalent;
 
 pub use boole::{complement, empty, full, inter, union};
@@ -26,4 +28,5 @@ pub use listing::{pairs, pairs_within};
 pub use orders::{Bound, bounds};
 pub use products::{compose, dom, left, ran, right, syq};
 pub use transposing::turned;
+pub use turned_products::compose_turned;
 pub use univalent::unival;

@@ -15,7 +15,7 @@ use rel_slices::{Remembers, Value, full, shape_of, transpose};
 use std::alloc::Global;
 
 /// A product has a small result up to this many rows and columns.
-const SMALL: u32 = 256;
+pub(crate) const SMALL: u32 = 256;
 
 /// The relations of two values, if both are whole, one of them is better left so, and their composition is small. For
 /// one with a large result, lines are better.

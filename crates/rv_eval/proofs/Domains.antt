@@ -10,7 +10,6 @@ use Rattle.rel_model.specs.Algebra.{HasType}
 use Rattle.rel_model.specs.Relation.{Relation, size_limit}
 use Rattle.rel_model.specs.Worker.{Worker, Stands, Gives, Keeps}
 use Rattle.rel_slices.specs.declared.thin.Value.{Value}
-use Rattle.rel_slices.specs.Thin.{value_rows, value_cols}
 use Rattle.rel_values.specs.Values.{Fits as FitsIn, owed, OperatesWithin}
 use Rattle.rel_slices.proofs.Valuing.{whole_value}
 use Rattle.rel_model.specs.Domains.{HasDomainCause, pairing, right_injection}
@@ -20,7 +19,7 @@ use Rattle.rel_model.specs.Operators.{symmetric_quotient}
 use Rattle.lang_model.specs.Rooms.{wide_cost}
 use Rattle.lang_model.specs.Types.{known}
 use Rattle.rv_eval.specs.declared.halt.Halt.{Halt}
-use Rattle.lang_model.specs.Outcomes.{Cost, Ill, Size, Got, Not, Operation, Makes, Refuses, with_turns}
+use Rattle.lang_model.specs.Outcomes.{Cost, Ill, Size, Got, Not, Operation, Makes, Refuses}
 use Rattle.lang_model.specs.BaseNames.{base_text}
 use Rattle.lang_model.specs.Types.{Fits, Misfit, sizes, type_of, computed_of_two}
 use Rattle.lang_model.specs.Mean.{fitting, limited, paired, based, domain_made}

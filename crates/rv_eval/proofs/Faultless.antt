@@ -6,7 +6,7 @@
 -- 3. A definition that stands earlier is the first of its name among the items, and the definitions that it calls have a
 --    lower rank (`found`).
 -- 4. So calls are good, by induction on how deep they may stand in one another (`calls-good`).
-use Rattle.std.proofs.Common.{◌≡◌, ◌≤◌, ◌==◌, ◌+◌, ◌-◌, ◌++◌, ◌||◌, ◌&&◌, ◌∙◌, ℕ, zero, suc, max, Bool, true, false, cond, List, [], ◌∷◌, length, Option, Some, None, is_some, refl, ap, subst, arith}
+use Rattle.std.proofs.Common.{◌≡◌, ◌≤◌, ◌==◌, ◌+◌, ◌++◌, ◌||◌, ◌&&◌, ◌∙◌, ℕ, zero, suc, max, Bool, true, false, cond, List, [], ◌∷◌, length, Option, Some, None, is_some, refl, ap, subst, arith}
 use Rattle.std.specs.Prelude.{IsSome}
 use Rattle.std.specs.Option.{option_map_or}
 use Rattle.lang_model.specs.declared.syntax.Place.{Place}
@@ -20,7 +20,6 @@ use Rattle.lang_model.specs.Tokens.{same_text}
 use Rattle.lang_model.specs.State.{State, assigned}
 use Rattle.lang_model.specs.Missing.{missing, missing_in, missing_along, first_of_both}
 use Rattle.lang_model.specs.Outcomes.{Answer, Got, Not, Came, got, following, and_then, with_turns}
-use Rattle.lang_model.specs.Types.{takes}
 use Rattle.lang_model.specs.Checking.{Names, among, no_name, Known, definition_of, Scope, is_projection, ref_faults, call_faults, domain_faults, target_faults, count_in, faults, faults_in, faults_along, rank_named, called, called_in, called_along, assigned_after, assigned_behind, assigned_by, faults_of, faults_within, faults_by, called_by, called_within, called_by_all}
 use Rattle.lang_model.specs.Mean.{Calls, around_with, named, injected_by, domain_named, mean, means, mean_along, mean_test, one_turn, rounds, run, run_within, run_by}
 use Rattle.rv_eval.proofs.BySizes.{Good, Any, then_good, based-good, linked-good, complemented-good, turned-good, paired-good, tested-good, left_none, right_none, no_fault_left, cond_true, first_none, second_none}

@@ -25,7 +25,7 @@ use Rattle.rv_eval.specs.declared.halt.Halt.TheVariants.{Ill as ILL, Lack as LAC
 use Rattle.rv_eval.specs.Ends.{Ends, HasHalted}
 use Rattle.rv_eval.proofs.Going.{rose_before}
 use Rattle.rv_eval.specs.Names.{first_of, state_of, AllStand, beside}
-use Rattle.rv_eval.specs.Values.{meant, state_by, AllFit, whole_pair_of, most, most_named, names_owe}
+use Rattle.rv_eval.specs.Values.{meant, state_by, AllFit, whole_pair_of, most_named, names_owe}
 
 some_inj : {p q : Value} → Some p ≡ Some q → p ≡ q
 some_inj e = cc

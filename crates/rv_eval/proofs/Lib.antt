@@ -25,3 +25,4 @@ pub mod Ills
 pub mod Costing
 pub mod Performing
 pub mod Evaluating
+pub mod Starting

@@ -1,7 +1,6 @@
 -- What names and values owe at most, where they are set, bound and listed.
-use Rattle.std.proofs.Common.{◌≡◌, ◌≤◌, ◌+◌, ◌++◌, ℕ, zero, suc, max, List, [], ◌∷◌, refl, arith}
+use Rattle.std.proofs.Common.{◌≤◌, ◌++◌, ℕ, zero, suc, max, List, [], ◌∷◌, arith}
 use Rattle.std.proofs.Math.ListN.{set}
-use Rattle.rel_model.specs.declared.Rel.{Rel}
 use Rattle.rv_eval.specs.Names.{beside}
 use Rattle.rv_eval.specs.Values.{most, most_named}
 

@@ -1,7 +1,7 @@
 -- The meaning of an expression or a statement as that of its first part and what follows.
 -- Each part is what the code has in hand, which is equal to the part of the syntax: an operand behind its box, a list as
 -- a slice, the names as a slice.
-use Rattle.std.proofs.Common.{◌≡◌, ◌≤◌, ◌+◌, ◌∙◌, ℕ, max, Bool, cond, [], List, Ok, refl, sym, ap, arith}
+use Rattle.std.proofs.Common.{◌≡◌, ◌∙◌, ℕ, max, Bool, cond, [], List, Result, Ok, refl, sym, ap, arith}
 use Rattle.lang_model.specs.declared.syntax.Place.{Place}
 use Rattle.lang_model.specs.declared.syntax.Expr.{Expr}
 use Rattle.lang_model.specs.declared.syntax.Expr.TheVariants.{Call, Base, Pair, Minus, Turned, Chain}
@@ -12,14 +12,15 @@ use Rattle.rel_model.specs.Relation.{Relation}
 use Rattle.rel_model.specs.Worker.{Worker}
 use Rattle.rel_slices.specs.declared.thin.Value.{Value}
 use Rattle.rel_slices.specs.Thin.{value_of}
-use Rattle.rel_values.specs.Values.{owed}
+use Rattle.rel_values.specs.Values.{Fits, owed}
 use Rattle.lang_model.specs.State.{State, assigned}
-use Rattle.lang_model.specs.Outcomes.{Came, got, and_then, with_turns}
+use Rattle.lang_model.specs.Outcomes.{Came, Operation, got, and_then, with_turns}
 use Rattle.lang_model.specs.Mean.{Around, mean, means_by, mean_by, mean_test, based, paired, complemented, turned, run, run_by, looped}
 use Rattle.rv_eval.specs.Values.{state_by, AllFit, names_owe}
-use Rattle.rv_eval.specs.Ends.{Ends}
-use Rattle.rv_eval.proofs.Going.{Goes, goes_as, first_on}
-use Rattle.rv_eval.proofs.Fitting.{state_kept}
+use Rattle.rv_eval.specs.declared.halt.Halt.{Halt}
+use Rattle.rv_eval.specs.Ends.{Ends, EndsOnce}
+use Rattle.rv_eval.proofs.Going.{Goes, goes_as, goes_on, goes_last, ends_operation, first_on}
+use Rattle.rv_eval.proofs.Fitting.{value_kept, state_kept}
 use Rattle.rv_eval.proofs.Unfolding.{mean-call, mean-base, mean-chain, run-while, run-if}
 
 -- ---- expressions
@@ -58,17 +59,39 @@ module _ (a : Around) (s : State) (n : ℕ) (expr : Expr) where
       ∙ ap (λ ks. and_then (mean a s first.value n) (λ r m. mean_by a s r ks m)) (sym r)
       ∙ ap (λ z. and_then (mean a s z n) (λ r m. mean_by a s r ls m)) (sym l)
 
--- the right operand of a pairing, where the names of a later worker mean what they meant at first
-pub before_right : {leaf : ℕ} (a : Around) {old v : Worker} {n m : ℕ} (names : List (List ℕ × Value)) (at : Place) (x y : Expr) (first : Value) {total : Came Relation}
+-- the right operand of an operation on two, where the names of a later worker mean what they meant at first
+pub before_right : {leaf : ℕ} (a : Around) {old v : Worker} {n m : ℕ} (names : List (List ℕ × Value)) (o : Relation → Relation → Operation) (x y : Expr) (first : Value) {total : Came Relation}
     → AllFit old names
-    → total ≡ and_then (mean a (state_by old names) x n) (λ r m. and_then (mean a (state_by old names) y m) (λ q k. with_turns (paired at r q) k))
+    → total ≡ and_then (mean a (state_by old names) x n) (λ r m. and_then (mean a (state_by old names) y m) (λ q k. with_turns (o r q) k))
     → Ends leaf old v n m (names_owe leaf names) (mean a (state_by old names) x n) (value_of v) (owed leaf) (Ok first)
     → Goes leaf old v n m (names_owe leaf names) (max (owed leaf first) (names_owe leaf names)) total
-    (and_then (mean a (state_by v names) y m) (λ q k. with_turns (paired at (value_of v first) q) k))
-before_right a {old = old} {v = v} {m = m} names at x y first stand e ends =
+    (and_then (mean a (state_by v names) y m) (λ q k. with_turns (o (value_of v first) q) k))
+before_right a {old = old} {v = v} {m = m} names o x y first stand e ends =
     let kept = sym (state_kept old v names ends.keeps stand) in
-    goes_as _ _ _ _ _ _ _ (ap (λ z. and_then (mean a z y m) (λ q k. with_turns (paired at (value_of v first) q) k)) kept)
+    goes_as _ _ _ _ _ _ _ (ap (λ z. and_then (mean a z y m) (λ q k. with_turns (o (value_of v first) q) k)) kept)
     (first_on _ _ _ _ _ _ _ _ _ _ e ends (omega arith))
+
+-- an operation on two values, the first of which means what it meant in a later worker
+pub both_end : {leaf : ℕ} (a : Around) {old v u w : Worker} {n m k : ℕ} (names : List (List ℕ × Value)) (o : Relation → Relation → Operation) (x y : Expr) (first second : Value) {total : Came Relation} (result : Result Value Halt)
+    → AllFit old names
+    → total ≡ and_then (mean a (state_by old names) x n) (λ r m. and_then (mean a (state_by old names) y m) (λ q k. with_turns (o r q) k))
+    → Ends leaf old v n m (names_owe leaf names) (mean a (state_by old names) x n) (value_of v) (owed leaf) (Ok first) → Fits v first
+    → Ends leaf v u m k (names_owe leaf names) (mean a (state_by v names) y m) (value_of u) (owed leaf) (Ok second)
+    → EndsOnce leaf u w (o (value_of u first) (value_of u second)) result
+    → Ends leaf old w n k (names_owe leaf names) total (value_of w) (owed leaf) result
+both_end a {v = v} {u = u} {k = k} names o x y first second result stand e ends fits then once =
+    let goes = goes_on _ _ _ _ _ _ _ _ _ _ _ _ (before_right a names o x y first stand e ends) then (omega arith) in
+    let left = sym (value_kept v u first then.keeps fits) in
+    goes_last _ _ _ _ _ _ _ _ _ _ result (goes_as _ _ _ _ _ _ _ (ap (λ r. with_turns (o r (value_of u second)) k) left) goes) (ends_operation _ _ _ _ _ _ result once) (omega arith)
+
+-- the links of a chain, after its first value
+pub links_end : {leaf : ℕ} (a : Around) {old v u : Worker} {n m k : ℕ} (names : List (List ℕ × Value)) (ls : List Link) (first : Value) {x : Came Relation} (result : Result Value Halt)
+    → AllFit old names → Ends leaf old v n m (names_owe leaf names) x (value_of v) (owed leaf) (Ok first)
+    → Ends leaf v u m k (max (owed leaf first) (names_owe leaf names)) (mean_by a (state_by v names) (value_of v first) ls m) (value_of u) (owed leaf) result
+    → Ends leaf old u n k (names_owe leaf names) (and_then x (λ r m. mean_by a (state_by old names) r ls m)) (value_of u) (owed leaf) result
+links_end a {old = old} {v = v} {m = m} names ls first result stand ends then =
+    let kept = ap (λ y. mean_by a y (value_of v first) ls m) (sym (state_kept old v names ends.keeps stand)) in
+    goes_last _ _ _ _ _ _ _ _ _ _ result (goes_as _ _ _ _ _ _ _ kept (first_on _ _ _ _ _ _ (λ r m. mean_by a (state_by old names) r ls m) _ _ _ refl ends (omega arith))) then (omega arith)
 
 -- ---- statements
 module _ (a : Around) (w : Worker) (names : List (List ℕ × Value)) (n : ℕ) (stmt : Stmt) where

@@ -7,3 +7,4 @@ pub mod Demands
 pub mod Faultless
 pub mod Unknown
 pub mod Lacking
+pub mod Turned

@@ -1,5 +1,5 @@
 //! What the walk of the evaluator shares: the surroundings of an expression, and the names that it sees.
-use lang_model::syntax::{Decl, Expr, Name, Place, Stmt};
+use lang_model::syntax::{Decl, Expr, Link, Name, Place, Stmt};
 use rel_slices::Value;
 use rv_types::Checked;
 use std::alloc::Global;
@@ -34,4 +34,14 @@ pub struct Loop<'a> {
     pub at: Place,
     pub test: &'a Expr,
     pub body: &'a [Stmt],
+}
+
+/// The start of a chain `R^...^ * S ...`: the operand that is transposed, how many times, the composition, and the
+/// links that follow. 40 bytes.
+#[derive(Clone, Copy)]
+pub struct Start<'a> {
+    pub of: &'a Expr,
+    pub times: u32,
+    pub link: &'a Link,
+    pub more: &'a [Link],
 }

@@ -17,6 +17,7 @@ mod names;
 mod operators;
 mod refusal;
 mod shapes;
+mod starts;
 mod steps;
 mod walk;
 

@@ -5,15 +5,17 @@ ghost use Rattle.rel_values.specs.Values.{Fits};
 ghost use Rattle.lang_model.specs.Types.{known, takes as takes_types};
 ghost use Rattle.lang_model.specs.Mean.{linked, complemented, turned};
 ghost use Rattle.rv_eval.specs.Ends.{Performs, wholly, lifted};
+ghost use Rattle.rv_eval.specs.Turned.{turned_linked, linked_at_start};
 
 use crate::faults::mismatch;
 use crate::halt::Halt;
+use crate::here::Start;
 use crate::shapes::shape_in;
 use lang_model::syntax::{Op2, Place};
 use rel_model::engine_trait::Engine;
 use rel_model::{Lack, Rel, Shape};
 use rel_slices::{Remembers, Value};
-use rel_values::{compose, inter, left, right, union};
+use rel_values::{compose, compose_turned, inter, left, right, union};
 use std::alloc::Global;
 
 /// The result of a worker's operation, as a whole value.
@@ -59,12 +61,17 @@ pub fn complement<E: Remembers>(engine: &mut E, r: &Value) -> Result<Value, Halt
 }
 
 /// `R^...^`: a relation transposed `times` times.
-pub fn transposed<E: Remembers>(engine: &mut E, r: &Value, times: u32) -> Result<Value, Halt>
+pub fn transposed<E: Remembers>(
+    alloc: Global,
+    engine: &mut E,
+    r: &Value,
+    times: u32,
+) -> Result<Value, Halt>
     requires standing { Fits (E.worker engine.old) r.now }
     ensures { let w = E.worker engine.old in
         Performs E.least w (E.worker engine.new) (turned times (value_of w r.now)) result }
 {
-    lift(rel_values::turned(engine, r, times))
+    lift(rel_values::turned(alloc, engine, r, times))
 }
 
 /// `R | S`, `R & S`, `R * S`, `R \ S` or `R / S`, for operands that fit.
@@ -113,4 +120,50 @@ pub fn link<E: Remembers>(
     } else {
         Err(mismatch(alloc, at, op, a, b))
     }
+}
+
+/// `R^ * S`. The operands are tested first.
+fn link_turned_once<E: Remembers>(
+    alloc: Global,
+    engine: &mut E,
+    at: Place,
+    r: &Value,
+    s: &Value,
+) -> Result<Value, Halt>
+    requires left { Fits (E.worker engine.old) r.now }
+    requires right { Fits (E.worker engine.old) s.now }
+    ensures { let w = E.worker engine.old in
+        Performs E.least w (E.worker engine.new) (turned_linked at 1 (value_of w r.now) (value_of w s.now)) result }
+{
+    let a = shape_in(engine, r);
+    let b = shape_in(engine, s);
+    if a.rows == b.rows {
+        return lift(compose_turned(alloc, engine, r, s));
+    }
+    let turned = Shape {
+        rows: a.cols,
+        cols: a.rows,
+    };
+    Err(mismatch(alloc, at, Op2::Times, turned, b))
+}
+
+/// `R^...^ * S`, the start of a chain. The transposition is not made where lines can be turned in its place.
+pub fn link_turned<E: Remembers>(
+    alloc: Global,
+    engine: &mut E,
+    start: Start,
+    r: &Value,
+    s: &Value,
+) -> Result<Value, Halt>
+    requires left { Fits (E.worker engine.old) r.now }
+    requires right { Fits (E.worker engine.old) s.now }
+    ensures { let w = E.worker engine.old in
+        let o = linked_at_start start.entry (value_of w r.now) (value_of w s.now) in
+        Performs E.least w (E.worker engine.new) o result }
+{
+    let at = start.link.at;
+    if start.times % 2 == 0 {
+        return link(alloc, engine, at, Op2::Times, r, s);
+    }
+    link_turned_once(alloc, engine, at, r, s)
 }

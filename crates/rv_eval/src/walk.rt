@@ -14,7 +14,8 @@ use crate::domain_calls::pair;
 use crate::faults::{too_deep, unknown};
 use crate::halt::Halt;
 use crate::here::{Around, Called, Here, Loop};
-use crate::operators::{complement, link, transposed};
+use crate::operators::{complement, link, link_turned, transposed};
+use crate::starts::turned_start;
 use crate::steps::{assign, bound_names, decide, inject, value_of_name};
 use lang_model::syntax::{Decl, Expr, Item, Link, Name, Place, Stmt};
 use rel_model::Lack;
@@ -60,11 +61,43 @@ pub fn eval_expr<E: Remembers>(
             Err(halt) => Err(halt),
         },
         Expr::Turned { of, times, .. } => match eval_expr(engine, here, of, turns) {
-            Ok(operand) => transposed(engine, &operand, *times),
+            Ok(operand) => transposed(here.around.alloc, engine, &operand, *times),
             Err(halt) => Err(halt),
         },
-        Expr::Chain { first, rest } => match eval_expr(engine, here, first, turns) {
-            Ok(value) => eval_links(engine, here, &value, rest.as_slice(), turns),
+        Expr::Chain { first, rest } => eval_chain(engine, here, first, rest.as_slice(), turns),
+    }
+}
+
+/// The value of a chain. One that begins with `R^...^ * S` leaves the transposition to the composition.
+#[cycle(eval)]
+fn eval_chain<E: Remembers>(
+    engine: &mut E,
+    here: &Here,
+    first: &Expr,
+    rest: &[Link],
+    turns: &mut u64,
+) -> Result<Value, Halt>
+    requires standing { AllFit (E.worker engine.old) here.now.names.now }
+    ensures ends { let w = E.worker engine.old in
+        let a = around_of here.now.around in
+        let s = state_of_here w here.now in
+        let m = and_then (mean a s first.now turns.old) (λ r n. mean_by a s r rest.now n) in
+        EndsWith E.least w (E.worker engine.new) turns.old turns.new (owed_by_here E.least here.now) m result }
+    ensures fits { IfOk result (Fits (E.worker engine.new)) }
+{
+    match turned_start(first, rest) {
+        Some(start) => match eval_expr(engine, here, start.of, turns) {
+            Ok(left) => match eval_expr(engine, here, &start.link.right, turns) {
+                Ok(right) => match link_turned(here.around.alloc, engine, start, &left, &right) {
+                    Ok(value) => eval_links(engine, here, &value, start.more, turns),
+                    Err(halt) => Err(halt),
+                },
+                Err(halt) => Err(halt),
+            },
+            Err(halt) => Err(halt),
+        },
+        None => match eval_expr(engine, here, first, turns) {
+            Ok(value) => eval_links(engine, here, &value, rest, turns),
             Err(halt) => Err(halt),
         },
     }

@@ -9,8 +9,8 @@ use rel_model::faults::DomainError;
 use rel_model::{Lack, Shape};
 use rel_slices::{Remembers, Value, shape_of};
 use rel_values::{
-    Bound, atom, bounds, complement, compose, dom, empty, epsi, full, init, inj, inter, left, next,
-    pair, point, ran, right, syq, turned, union,
+    Bound, atom, bounds, complement, compose, compose_turned, dom, empty, epsi, full, init, inj,
+    inter, left, next, pair, point, ran, right, syq, turned, union,
 };
 use std::alloc::Global;
 use std::process::Abort;
@@ -34,9 +34,8 @@ pub(crate) fn answer_of<E: Remembers>(
             Ok(value) => value,
             Err(_) => panic!(rt; "refused"),
         },
-        Op::Union | Op::Inter | Op::Compose | Op::Right | Op::Left | Op::Syq => {
-            given(rt, of_two(rt, alloc, engine, op, x, y))
-        }
+        Op::Union | Op::Inter | Op::Compose | Op::ComposeTurned | Op::Right | Op::Left | Op::Syq =>
+            { given(rt, of_two(rt, alloc, engine, op, x, y)) }
         Op::Point | Op::Init | Op::Next | Op::Inj => given(rt, of_vector(rt, engine, op, x)),
         Op::Complement | Op::Turned(_) | Op::Dom | Op::Ran | Op::Atom => {
             given(rt, of_one(alloc, engine, op, x))
@@ -84,6 +83,10 @@ fn of_two<E: Remembers>(
             assert!(rt; a.cols == b.rows);
             compose(alloc, engine, x, y)
         }
+        Op::ComposeTurned => {
+            assert!(rt; a.rows == b.rows);
+            compose_turned(alloc, engine, x, y)
+        }
         Op::Right => {
             assert!(rt; a.rows == b.rows);
             right(alloc, engine, x, y)
@@ -106,7 +109,7 @@ fn of_one<E: Remembers>(alloc: Global, engine: &mut E, op: Op, x: &Value) -> Res
 {
     match op {
         Op::Complement => complement(engine, x),
-        Op::Turned(times) => turned(engine, x, times),
+        Op::Turned(times) => turned(alloc, engine, x, times),
         Op::Dom => dom(alloc, engine, x),
         Op::Ran => ran(alloc, engine, x),
         _ => atom(engine, x),

@@ -11,6 +11,7 @@ pub(crate) enum Op {
     Full,
     Empty,
     Compose,
+    ComposeTurned,
     Right,
     Left,
     Syq,
@@ -86,7 +87,7 @@ pub(crate) fn left_shape(op: Op, sizes: Sizes) -> Shape {
     let Sizes { k, m, n } = sizes;
     match op {
         Op::Compose | Op::Left | Op::Pair => Shape { rows: k, cols: m },
-        Op::Right | Op::Syq => Shape { rows: m, cols: k },
+        Op::ComposeTurned | Op::Right | Op::Syq => Shape { rows: m, cols: k },
         Op::Point | Op::Init | Op::Next | Op::Inj => Shape { rows: k, cols: 1 },
         Op::Upper | Op::Lower | Op::Least | Op::Greatest | Op::Suprema | Op::Infima => {
             Shape { rows: k, cols: k }
@@ -100,7 +101,7 @@ pub(crate) fn left_shape(op: Op, sizes: Sizes) -> Shape {
 pub(crate) fn right_shape(op: Op, sizes: Sizes) -> Shape {
     let Sizes { k, m, n } = sizes;
     match op {
-        Op::Compose | Op::Right | Op::Syq => Shape { rows: m, cols: n },
+        Op::Compose | Op::ComposeTurned | Op::Right | Op::Syq => Shape { rows: m, cols: n },
         Op::Left => Shape { rows: n, cols: m },
         Op::Union | Op::Inter | Op::Pair => Shape { rows: k, cols: n },
         Op::Upper | Op::Lower | Op::Least | Op::Greatest | Op::Suprema | Op::Infima => {
@@ -144,6 +145,7 @@ pub(crate) fn answers(op: Op, sizes: Sizes, i: u32, j: u32) -> bool {
         Op::Full => true,
         Op::Empty => false,
         Op::Compose => (0..m).any(|l| first(i, l) && second(l, j)),
+        Op::ComposeTurned => (0..m).any(|l| first(l, i) && second(l, j)),
         Op::Right => (0..m).all(|l| !first(l, i) || second(l, j)),
         Op::Left => (0..m).all(|l| !second(j, l) || first(i, l)),
         Op::Syq => (0..m).all(|l| first(l, i) == second(l, j)),

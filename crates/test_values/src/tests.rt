@@ -216,7 +216,7 @@ fn compositions_and_residuals_have_the_pairs_of_their_clauses(rt: HostRuntime) {
     at_all_sizes(
         &rt,
         rt.alloc(),
-        &[Op::Compose, Op::Right, Op::Left, Op::Syq],
+        &[Op::Compose, Op::ComposeTurned, Op::Right, Op::Left, Op::Syq],
     );
 }
 

@@ -1,13 +1,13 @@
 use Rattle.std.proofs.Common.{◌≡◌, ℕ, sym, ap, subst, arith, Ok}
 use Rattle.rel_model.specs.Operators.{transpose}
-use Rattle.rel_model.specs.Worker.{plain_room, operator_room}
+use Rattle.rel_model.specs.Worker.{operator_room}
 use Rattle.rel_slices.specs.declared.thin.Value.{Value}
 use Rattle.rel_slices.specs.declared.thin.Value.TheVariants.{Whole}
 use Rattle.rel_slices.specs.Thin.{value_of, value_rows, value_cols}
 use Rattle.rel_slices.specs.ValueRooms.{transpose_room}
 use Rattle.rel_slices.proofs.Valuing.{whole_value}
 use Rattle.rel_values.specs.Values.{Operates}
-use Rattle.rel_values.proofs.Small.{plain_squares, operator_squares, square_turned, Held, owed_given}
+use Rattle.rel_values.proofs.Small.{operator_squares, square_turned, Held, owed_given}
 use Rattle.rel_values.proofs.Operating.{begun, goes_on, stops, ends, form_long}
 use Rattle.rel_values.proofs.transposing.transposed.Goals as goal
 
@@ -16,12 +16,10 @@ returns-in_err-turned-in-Whole g c =
     let o = g.E.Core.worker c.args.engine.now in
     let least : ℕ = g.E.Core.least in
     let r = c.in-Whole.r in
-    let p = plain_squares r.rows r.cols in
-    let p0 = operator_squares r.rows r.cols in
     let e = c.in_err-turned-in-Whole.ensures in
     record {
-      operates = subst (λ (x : Value). Operates least g.E.Core.lean o (g.E.Core.worker c.whole_transposed.new.engine) (value_cols x) (value_rows x) (transpose (value_of o x)) (plain_room (value_rows x) (value_cols x)) c.from_residual.result) (sym c.in-Whole.is)
-          (stops (operator_room r.rows r.cols) c.from_residual.result c.from_residual.ensures.1 (omega (arith, p, p0)) (begun o) e.keeps e.room e.cause);
+      operates = subst (λ (x : Value). Operates least g.E.Core.lean o (g.E.Core.worker c.whole_transposed.new.engine) (value_cols x) (value_rows x) (transpose (value_of o x)) (operator_room (value_rows x) (value_cols x)) c.from_residual.result) (sym c.in-Whole.is)
+          (stops (operator_room r.rows r.cols) c.from_residual.result c.from_residual.ensures.1 (omega arith) (begun o) e.keeps e.room e.cause);
     }
 
 pub returns-in_ok-turned-in-Whole : goal.returns-in_ok-turned-in-Whole
@@ -29,14 +27,12 @@ returns-in_ok-turned-in-Whole g c =
     let o = g.E.Core.worker c.args.engine.now in
     let least : ℕ = g.E.Core.least in
     let r = c.in-Whole.r in
-    let p = plain_squares r.rows r.cols in
-    let p0 = operator_squares r.rows r.cols in
     let e = c.in_ok-turned-in-Whole.ensures in
     let turned = c.in_ok-turned-in-Whole.turned in
     let c0 = goes_on (operator_room r.rows r.cols) (begun o) e.keeps e.room e.cause in
     record {
-      operates = subst (λ (x : Value). Operates least g.E.Core.lean o (g.E.Core.worker c.whole_transposed.new.engine) (value_cols x) (value_rows x) (transpose (value_of o x)) (plain_room (value_rows x) (value_cols x)) (Ok (Whole turned))) (sym c.in-Whole.is)
-          (ends (omega (arith, p, p0)) c0 (whole_value (g.E.Core.worker c.whole_transposed.new.engine) _ _ _ turned e.value) tt);
+      operates = subst (λ (x : Value). Operates least g.E.Core.lean o (g.E.Core.worker c.whole_transposed.new.engine) (value_cols x) (value_rows x) (transpose (value_of o x)) (operator_room (value_rows x) (value_cols x)) (Ok (Whole turned))) (sym c.in-Whole.is)
+          (ends (omega arith) c0 (whole_value (g.E.Core.worker c.whole_transposed.new.engine) _ _ _ turned e.value) tt);
     }
 
 pub returns-in_ok-turned-in-Lines : goal.returns-in_ok-turned-in-Lines
@@ -47,7 +43,7 @@ returns-in_ok-turned-in-Lines g c =
     let o = g.E.Core.worker core in
     let least : ℕ = g.E.Core.least in
     let v = c.args.v.now in
-    let p = plain_squares (value_rows v) (value_cols v) in
+    let p = operator_squares (value_rows v) (value_cols v) in
     let e = c.in_ok-turned-in-Lines.ensures in
     let turned = c.in_ok-turned-in-Lines.turned in
     let c0 = goes_on (transpose_room least v) (begun o) e.keeps e.room e.cause in

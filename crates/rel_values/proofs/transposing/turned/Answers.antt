@@ -1,8 +1,8 @@
-use Rattle.std.proofs.Common.{◌≡◌, ◌%◌, ℕ, arith}
+use Rattle.std.proofs.Common.{◌≡◌, ◌%◌, ℕ, refl, arith}
 use Rattle.rel_slices.specs.Thin.{value_rows, value_cols}
 use Rattle.rel_slices.proofs.Valuing.{value_type}
-use Rattle.rel_values.proofs.Small.{plain_squares, Held, owed_fits}
-use Rattle.rel_values.proofs.Operating.{begun, ends, turned_value, turned_once}
+use Rattle.rel_values.proofs.Small.{plain_squares, operator_squares, Held, owed_fits}
+use Rattle.rel_values.proofs.Operating.{begun, ends, after, turned_value, turned_once}
 use Rattle.rel_values.proofs.transposing.turned.Goals as goal
 
 pub returns-then-times-eq0 : goal.returns-then-times-eq0
@@ -28,4 +28,6 @@ returns g c =
     let v = c.args.v.now in
     let type = value_type o v (λ r s. record { valid = laws.valid core r s; row_size = laws.row_size core r s; col_size = laws.col_size core r s }) c.requires.fits.stands in
     let odd : c.args.times % 2 ≡ 1 = (let q = c.if-times-eq0.false in omega (arith, q)) in
-    record { operates = turned_once c.args.times v odd type c.transposed.ensures.operates }
+    let p = plain_squares (value_rows v) (value_cols v) in
+    let q = operator_squares (value_rows v) (value_cols v) in
+    record { operates = turned_once c.args.times v odd type (after c.transposed.result (begun o) c.transposed.ensures.operates refl refl refl (omega (arith, p, q))) }

@@ -1,4 +1,4 @@
-use Rattle.std.proofs.Common.{◌≡◌, ap}
+use Rattle.std.proofs.Common.{ap}
 use Rattle.lang_model.specs.Mean.{base_made_of_two}
 use Rattle.rv_eval.proofs.Bounding.{last_bounds}
 use Rattle.rv_eval.proofs.bounds.bound_named.Goals as goal

@@ -1,10 +1,10 @@
-use Rattle.std.proofs.Common.{◌≡◌, Err, Ok, refl, sym, subst}
+use Rattle.std.proofs.Common.{Ok, refl, subst}
 use Rattle.rel_model.proofs.Workers.{gives_set}
 use Rattle.rel_slices.specs.Thin.{value_rows, value_cols, value_of, ValueStands}
 use Rattle.lang_model.specs.Eval.{evaluated}
 use Rattle.rv_eval.specs.Names.{state_of}
-use Rattle.rv_eval.specs.Refusing.{IsEvaluatedBy, IsEvaluated}
-use Rattle.rv_eval.proofs.Wholly.{refused_evaluated, refused_alike, whole_evaluated, lack_evaluated, lack_no_fault}
+use Rattle.rv_eval.specs.Refusing.{IsEvaluatedBy}
+use Rattle.rv_eval.proofs.Wholly.{refused_evaluated, refused_alike, whole_evaluated}
 use Rattle.rv_eval.proofs.call.eval.Goals as goal
 
 pub returns-in-Err-clause-answer : goal.returns-in-Err-clause-answer

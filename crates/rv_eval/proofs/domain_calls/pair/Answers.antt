@@ -1,5 +1,5 @@
 use Rattle.std.proofs.Common.{◌∙◌, ◌*◌, max, sym, refl}
-use Rattle.rel_slices.specs.Thin.{value_of, value_rows, value_cols}
+use Rattle.rel_slices.specs.Thin.{value_rows, value_cols}
 use Rattle.rv_eval.proofs.Domains.{limited_ends, limited_fits, pair_fits, pair_misfit}
 use Rattle.rv_eval.proofs.Operating.{type_of_fit, unequal_sizes}
 use Rattle.rv_eval.proofs.Costing.{wide_by}

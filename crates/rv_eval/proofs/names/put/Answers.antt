@@ -1,4 +1,4 @@
-use Rattle.std.proofs.Common.{◌+◌, max, arith, ◌≡◌, ◌≤◌, ◌<◌, ◌∙◌, ◌++◌, ◌∷◌, [], cond, Some, None, true, false, length, get_or, ap, sym, subst}
+use Rattle.std.proofs.Common.{max, arith, ◌≡◌, ◌≤◌, ◌<◌, ◌∙◌, ◌++◌, ◌∷◌, [], cond, Some, None, true, false, length, get_or, ap, sym, subst}
 use Rattle.std.proofs.Math.ListN.{set}
 use Rattle.std.proofs.lemmas.List.{take_all}
 use Rattle.lang_model.specs.Tokens.{same_text}

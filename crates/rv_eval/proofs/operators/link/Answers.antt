@@ -1,4 +1,4 @@
-use Rattle.std.proofs.Common.{◌∙◌, true, sym, ap}
+use Rattle.std.proofs.Common.{◌∙◌, sym, ap}
 use Rattle.rel_slices.specs.Thin.{value_rows, value_cols}
 use Rattle.lang_model.specs.Types.{known, takes}
 use Rattle.rv_eval.proofs.Operating.{link_misfit}

@@ -1,18 +1,20 @@
-use Rattle.std.proofs.Common.{◌≡◌, ◌≤◌, ◌+◌, ◌-◌, ◌∙◌, ◌++◌, suc, max, true, false, cond, [], ◌∷◌, length, map, drop, Some, None, refl, sym, ap, subst, arith, rules}
+use Rattle.std.proofs.Common.{◌≡◌, ◌≤◌, ◌+◌, ◌∙◌, ◌++◌, max, true, false, [], ◌∷◌, length, map, drop, Some, None, refl, sym, ap, subst, arith, rules}
 use Rattle.std.specs.List.{AllByRecursion}
 use Rattle.rel_slices.specs.Thin.{value_of}
 use Rattle.rel_values.specs.Values.{Fits, owed}
-use Rattle.lang_model.specs.Outcomes.{Turns, got, and_then, with_turns}
-use Rattle.lang_model.specs.Mean.{mean, means_by, mean_by, based, paired, complemented, turned, linked, mean_test, around_with, calls_within, one_turn, rounds, looped, run, run_by, takes_arguments}
+use Rattle.lang_model.specs.Outcomes.{got, and_then, with_turns}
+use Rattle.lang_model.specs.Mean.{mean, means_by, mean_by, based, paired, mean_test, around_with, calls_within, run, run_by, takes_arguments}
 use Rattle.lang_model.specs.State.{assigned}
 use Rattle.rv_eval.specs.Around.{around_of}
 use Rattle.rv_eval.specs.Values.{state_by, AllFit, names_owe, values_owe}
-use Rattle.rv_eval.proofs.Going.{goes_start, goes_as, goes_with, goes_turn, goes_on, goes_err, goes_last, goes_got, goes_not, goes_lack, ends_operation, first_err, first_on, only_step, refuses, ok_map, ends_noted}
-use Rattle.rv_eval.proofs.Fitting.{value_kept, state_kept, all_fit_kept, values_more, all_values_more, state_assigned, all_fit_assigned, all_fit_bound, ref_ends, on_ok}
+use Rattle.rv_eval.proofs.Going.{goes_start, goes_as, goes_with, goes_on, goes_err, goes_last, goes_lack, ends_operation, first_err, first_on, only_step, refuses, ok_map, ends_noted}
+use Rattle.rv_eval.proofs.Fitting.{state_kept, all_fit_kept, values_more, all_values_more, state_assigned, all_fit_assigned, all_fit_bound, ref_ends, on_ok}
 use Rattle.rv_eval.proofs.Owing.{most-push}
+use Rattle.rv_eval.proofs.Starting.{chain_alike, ends_alike}
+use Rattle.rv_eval.specs.Turned.{linked_at_start}
 use Rattle.lang_model.proofs.Weights.{weight, weight_of_args, weight_of_links, weight_stmt, weight_by, weight-call, weight-base, weight-chain, weight-while, weight-if, weight_arg, weight_link, weight_one}
-use Rattle.rv_eval.proofs.Walking.{means-call, means-base, means-pair, means-minus, means-turned, means-chain, before_right, runs-set, runs-while, runs-if, before_branch}
-use Rattle.rv_eval.proofs.Unfolding.{run-while, run-if, args_next, links_next, run_next, turn_taken}
+use Rattle.rv_eval.proofs.Walking.{means-call, means-base, means-pair, means-minus, means-turned, means-chain, before_right, both_end, links_end, runs-set, runs-while, runs-if, before_branch}
+use Rattle.rv_eval.proofs.Unfolding.{run_next}
 use Rattle.rv_eval.proofs.Looping.{test_halts, loop_ends, no_turn_left, body_halts, one_round, before_link, before_operator, before_arg}
 use Rattle.rv_eval.proofs.Calling.{defined, bound_err, call_missing, function_falls, program_falls, function_means, program_reads, beside_owe}
 use Rattle.rv_eval.proofs.walk.+eval.Goals as goal
@@ -88,7 +90,6 @@ eval_args-args-2-preserved g t c =
     let rs = c.args-2.values.items in
     let vs = map (value_of (g.E.Core.worker c.args-2.engine)) rs in
     let goes = goes_on _ _ _ _ _ _ _ _ _ _ _ _ (before_arg (around_of c.args.here.now.around) c.args.here.now.names.now rs c.args.args.now c.args-2.arg-index c.arg-item.result c.args-2-test.true c.arg-item.is c.requires.standing c.args-2.invariant.goes) c.in-Ok.ensures.ends (omega arith) in
-    let kept = c.in-Ok.ensures.ends.keeps in
     let pushed : c.push.new.self.items ≡ rs ++ c.in-Ok.value ∷ [] = c.in-Ok-push.ensures.items in
     let leaf = g.E.Core.least in
     let start = names_owe leaf c.args.here.now.names.now in
@@ -96,8 +97,8 @@ eval_args-args-2-preserved g t c =
     let one : values_owe leaf (rs ++ c.in-Ok.value ∷ []) ≤ max (owed leaf c.in-Ok.value) (values_owe leaf rs) = most-push (owed leaf) rs c.in-Ok.value in
     let less : max (values_owe leaf c.push.new.self.items) start ≤ max (owed leaf c.in-Ok.value) (max (values_owe leaf rs) start) = omega (arith, owe, one) in
     record {
-      goes = goes_with _ _ _ _ _ _ _ less (goes_as _ _ _ _ _ _ _ (ap (λ xs. means_by (around_of c.args.here.now.around) (state_by (g.E.Core.worker c.args.engine.now) c.args.here.now.names.now) xs (drop (c.args-2.arg-index + 1) c.args.args.now) c.eval_expr.new.turns) (values_more (g.E.Core.worker c.args-2.engine) u rs c.in-Ok.value kept c.args-2.invariant.stands ∙ ap (map (value_of u)) (sym pushed))) goes);
-      stands = subst (AllByRecursion (Fits u)) (sym pushed) (all_values_more (g.E.Core.worker c.args-2.engine) u rs c.in-Ok.value kept c.args-2.invariant.stands c.in-Ok.ensures.fits);
+      goes = goes_with _ _ _ _ _ _ _ less (goes_as _ _ _ _ _ _ _ (ap (λ xs. means_by (around_of c.args.here.now.around) (state_by (g.E.Core.worker c.args.engine.now) c.args.here.now.names.now) xs (drop (c.args-2.arg-index + 1) c.args.args.now) c.eval_expr.new.turns) (values_more (g.E.Core.worker c.args-2.engine) u rs c.in-Ok.value c.in-Ok.ensures.ends.keeps c.args-2.invariant.stands ∙ ap (map (value_of u)) (sym pushed))) goes);
+      stands = subst (AllByRecursion (Fits u)) (sym pushed) (all_values_more (g.E.Core.worker c.args-2.engine) u rs c.in-Ok.value c.in-Ok.ensures.ends.keeps c.args-2.invariant.stands c.in-Ok.ensures.fits);
     }
 
 -- ---- expressions
@@ -138,16 +139,6 @@ eval_expr-eval_expr-requires-in-Turned g t c κs within =
     let w : weight c.args.expr.now ≡ weight c.deref-in-Turned.result.now + 1 = ap weight c.in-Turned.is ∙ ap (λ x. weight x + 1) (sym c.deref-in-Turned.ensures) in
     (search (rules, w), search (rules, c.requires.standing))
 
-pub eval_expr-eval_expr-requires-in-Chain : goal.eval_expr-eval_expr-requires-in-Chain
-eval_expr-eval_expr-requires-in-Chain g t c κs within =
-    let w : weight c.args.expr.now ≡ weight c.deref-in-Chain.result.now + weight_of_links c.in-Chain.rest.items + 1 = ap weight c.in-Chain.is ∙ weight-chain c.in-Chain.first c.in-Chain.rest ∙ ap (λ x. weight x + weight_of_links c.in-Chain.rest.items + 1) (sym c.deref-in-Chain.ensures) in
-    (search (rules, w), search (rules, c.requires.standing))
-
-pub eval_expr-eval_links-requires : goal.eval_expr-eval_links-requires
-eval_expr-eval_links-requires g t c κs within =
-    let w : weight c.args.expr.now ≡ weight c.in-Chain.first.value + weight_of_links c.as_slice-in-Ok-eval_expr-5.result.now + 1 = ap weight c.in-Chain.is ∙ weight-chain c.in-Chain.first c.in-Chain.rest ∙ ap (λ ls. weight c.in-Chain.first.value + weight_of_links ls + 1) (sym c.as_slice-in-Ok-eval_expr-5.ensures.value) in
-    (search (rules, w), search (rules, (all_fit_kept (g.E.Core.worker c.args.engine.now) (g.E.Core.worker c.eval_expr-in-Chain.new.engine) c.args.here.now.names.now c.in-Ok-eval_expr-5.ensures.ends.keeps c.requires.standing), c.in-Ok-eval_expr-5.ensures.fits))
-
 pub eval_expr-returns-in-Ref-clause-ends : goal.eval_expr-returns-in-Ref-clause-ends
 eval_expr-returns-in-Ref-clause-ends g t c =
     only_step _ _ _ _ _ _ _ _ _ (ap (λ x. mean (around_of c.args.here.now.around) (state_by (g.E.Core.worker c.args.engine.now) c.args.here.now.names.now) x c.args.turns.now) c.in-Ref.is) (ref_ends g.E.Core.least (g.E.Core.worker c.args.engine.now) c.args.here.now.names.now c.in-Ref.at c.in-Ref.name c.args.turns.now c.value_of_name.result c.requires.standing c.value_of_name.ensures) (omega arith)
@@ -178,15 +169,11 @@ eval_expr-returns-in-Inject-clause-ends g t c =
 pub eval_expr-returns-in-Ok-eval_expr-2-clause-ends : goal.eval_expr-returns-in-Ok-eval_expr-2-clause-ends
 eval_expr-returns-in-Ok-eval_expr-2-clause-ends g t c =
     let e = means-pair (around_of c.args.here.now.around) (state_by (g.E.Core.worker c.args.engine.now) c.args.here.now.names.now) c.args.turns.now c.args.expr.now _ _ _ _ _ c.in-Pair.is c.deref.ensures c.deref-in-Ok-eval_expr.ensures in
-    let goes = before_right (around_of c.args.here.now.around) c.args.here.now.names.now c.in-Pair.at c.deref.result.now c.deref-in-Ok-eval_expr.result.now c.in-Ok-eval_expr.first c.requires.standing e c.in-Ok-eval_expr.ensures.ends in
-    let u = g.E.Core.worker c.eval_expr-in-Ok-eval_expr.new.engine in
-    let then = goes_as _ _ _ _ _ _ _ (ap (λ x. with_turns (paired c.in-Pair.at x (value_of u c.in-Ok-eval_expr-2.second)) c.eval_expr-in-Ok-eval_expr.new.turns) (sym (value_kept (g.E.Core.worker c.eval_expr.new.engine) u c.in-Ok-eval_expr.first c.in-Ok-eval_expr-2.ensures.ends.keeps c.in-Ok-eval_expr.ensures.fits))) (goes_on _ _ _ _ _ _ _ _ _ _ _ _ goes c.in-Ok-eval_expr-2.ensures.ends (omega arith)) in
-    goes_last _ _ _ _ _ _ _ _ _ _ _ then (ends_operation _ _ _ _ _ _ _ c.pair.ensures.ends) (omega arith)
+    both_end (around_of c.args.here.now.around) c.args.here.now.names.now (paired c.in-Pair.at) c.deref.result.now c.deref-in-Ok-eval_expr.result.now c.in-Ok-eval_expr.first c.in-Ok-eval_expr-2.second _ c.requires.standing e c.in-Ok-eval_expr.ensures.ends c.in-Ok-eval_expr.ensures.fits c.in-Ok-eval_expr-2.ensures.ends c.pair.ensures.ends
 
 pub eval_expr-returns-in-Err-eval_expr-2-clause-ends : goal.eval_expr-returns-in-Err-eval_expr-2-clause-ends
 eval_expr-returns-in-Err-eval_expr-2-clause-ends g t c =
-    let e = means-pair (around_of c.args.here.now.around) (state_by (g.E.Core.worker c.args.engine.now) c.args.here.now.names.now) c.args.turns.now c.args.expr.now _ _ _ _ _ c.in-Pair.is c.deref.ensures c.deref-in-Ok-eval_expr.ensures in
-    goes_err _ _ _ _ _ _ _ _ _ _ _ _ _ _ (before_right (around_of c.args.here.now.around) c.args.here.now.names.now c.in-Pair.at c.deref.result.now c.deref-in-Ok-eval_expr.result.now c.in-Ok-eval_expr.first c.requires.standing e c.in-Ok-eval_expr.ensures.ends) c.in-Err-eval_expr-2.ensures.ends
+    goes_err _ _ _ _ _ _ _ _ _ _ _ _ _ _ (before_right (around_of c.args.here.now.around) c.args.here.now.names.now (paired c.in-Pair.at) c.deref.result.now c.deref-in-Ok-eval_expr.result.now c.in-Ok-eval_expr.first c.requires.standing (means-pair (around_of c.args.here.now.around) (state_by (g.E.Core.worker c.args.engine.now) c.args.here.now.names.now) c.args.turns.now c.args.expr.now _ _ _ _ _ c.in-Pair.is c.deref.ensures c.deref-in-Ok-eval_expr.ensures) c.in-Ok-eval_expr.ensures.ends) c.in-Err-eval_expr-2.ensures.ends
 
 pub eval_expr-returns-in-Err-eval_expr-clause-ends : goal.eval_expr-returns-in-Err-eval_expr-clause-ends
 eval_expr-returns-in-Err-eval_expr-clause-ends g t c =
@@ -208,18 +195,52 @@ pub eval_expr-returns-in-Err-eval_expr-4-clause-ends : goal.eval_expr-returns-in
 eval_expr-returns-in-Err-eval_expr-4-clause-ends g t c =
     first_err _ _ _ _ _ _ _ _ _ _ _ _ (means-turned _ _ _ _ _ _ _ _ c.in-Turned.is c.deref-in-Turned.ensures) c.in-Err-eval_expr-4.ensures.ends
 
-pub eval_expr-returns-in-Ok-eval_expr-5-clause-ends : goal.eval_expr-returns-in-Ok-eval_expr-5-clause-ends
-eval_expr-returns-in-Ok-eval_expr-5-clause-ends g t c =
-    let v = g.E.Core.worker c.eval_expr-in-Chain.new.engine in
-    let e = means-chain (around_of c.args.here.now.around) (state_by (g.E.Core.worker c.args.engine.now) c.args.here.now.names.now) c.args.turns.now c.args.expr.now c.in-Chain.first c.in-Chain.rest c.deref-in-Chain.result.now c.as_slice-in-Ok-eval_expr-5.result.now c.in-Chain.is c.deref-in-Chain.ensures c.as_slice-in-Ok-eval_expr-5.ensures.value in
-    let next = ap (λ y. mean_by (around_of c.args.here.now.around) y (value_of v c.in-Ok-eval_expr-5.value) c.as_slice-in-Ok-eval_expr-5.result.now c.eval_expr-in-Chain.new.turns) (sym (state_kept (g.E.Core.worker c.args.engine.now) v c.args.here.now.names.now c.in-Ok-eval_expr-5.ensures.ends.keeps c.requires.standing)) in
-    goes_last _ _ _ _ _ _ _ _ _ _ _ (goes_as _ _ _ _ _ _ _ next (first_on _ _ _ _ _ _ _ _ _ _ e c.in-Ok-eval_expr-5.ensures.ends (omega arith))) c.eval_links.ensures.ends (omega arith)
+pub eval_expr-eval_chain-requires : goal.eval_expr-eval_chain-requires
+eval_expr-eval_chain-requires g t c κs within =
+    let w : weight c.args.expr.now ≡ weight c.deref-in-Chain.result.now + weight_of_links c.as_slice-in-Chain.result.now + 1 = ap weight c.in-Chain.is ∙ weight-chain c.in-Chain.first c.in-Chain.rest ∙ ap (λ x. weight x + weight_of_links c.in-Chain.rest.items + 1) (sym c.deref-in-Chain.ensures) ∙ ap (λ ls. weight c.deref-in-Chain.result.now + weight_of_links ls + 1) (sym c.as_slice-in-Chain.ensures.value) in
+    (search (rules, w), search (rules, c.requires.standing))
 
-pub eval_expr-returns-in-Err-eval_expr-5-clause-ends : goal.eval_expr-returns-in-Err-eval_expr-5-clause-ends
-eval_expr-returns-in-Err-eval_expr-5-clause-ends g t c =
-    first_err _ _ _ _ _ _ _ _ _ _ _ _ (means-chain _ _ _ _ _ _ _ _ c.in-Chain.is c.deref-in-Chain.ensures refl) c.in-Err-eval_expr-5.ensures.ends
+pub eval_expr-returns-in-Chain-clause-ends : goal.eval_expr-returns-in-Chain-clause-ends
+eval_expr-returns-in-Chain-clause-ends g t c =
+    only_step _ _ _ _ _ _ _ _ _ (means-chain _ _ _ _ _ _ _ _ c.in-Chain.is c.deref-in-Chain.ensures c.as_slice-in-Chain.ensures.value) c.eval_chain.ensures.ends (omega arith)
 
--- ---- links
+-- ---- chains
+pub eval_chain-eval_expr-requires-in-Ok : goal.eval_chain-eval_expr-requires-in-Ok
+eval_chain-eval_expr-requires-in-Ok g t c κs within =
+    let w : weight_of_links c.args.rest.now ≡ weight c.in-Some.start.link.now.right + weight_of_links c.in-Some.start.more.now = ap weight_of_links c.in-Some.ensures.links in
+    (search (rules, w), search (rules, (all_fit_kept (g.E.Core.worker c.args.engine.now) (g.E.Core.worker c.eval_expr.new.engine) c.args.here.now.names.now c.in-Ok.ensures.ends.keeps c.requires.standing)))
+
+pub eval_chain-eval_links-requires : goal.eval_chain-eval_links-requires
+eval_chain-eval_links-requires g t c κs within =
+    let w : weight_of_links c.args.rest.now ≡ weight c.in-Some.start.link.now.right + weight_of_links c.in-Some.start.more.now = ap weight_of_links c.in-Some.ensures.links in
+    let u = g.E.Core.worker c.eval_expr.new.engine in
+    let v = g.E.Core.worker c.eval_expr-in-Ok.new.engine in
+    let stand = all_fit_kept u v c.args.here.now.names.now c.in-Ok-eval_expr.ensures.ends.keeps (all_fit_kept (g.E.Core.worker c.args.engine.now) u c.args.here.now.names.now c.in-Ok.ensures.ends.keeps c.requires.standing) in
+    (search (rules, w), search (rules, (all_fit_kept v (g.E.Core.worker c.link_turned.new.engine) c.args.here.now.names.now c.in-Ok-link_turned.ensures.ends.keeps stand), c.in-Ok-link_turned.ensures.fits))
+
+pub eval_chain-eval_links-requires-in-Ok-eval_expr-2 : goal.eval_chain-eval_links-requires-in-Ok-eval_expr-2
+eval_chain-eval_links-requires-in-Ok-eval_expr-2 g t c κs within =
+    (search rules, search (rules, (all_fit_kept (g.E.Core.worker c.args.engine.now) (g.E.Core.worker c.eval_expr-in-None.new.engine) c.args.here.now.names.now c.in-Ok-eval_expr-2.ensures.ends.keeps c.requires.standing), c.in-Ok-eval_expr-2.ensures.fits))
+
+pub eval_chain-returns-in-Ok-link_turned-clause-ends : goal.eval_chain-returns-in-Ok-link_turned-clause-ends
+eval_chain-returns-in-Ok-link_turned-clause-ends g t c =
+    ends_alike _ (chain_alike (around_of c.args.here.now.around) (state_by (g.E.Core.worker c.args.engine.now) c.args.here.now.names.now) c.args.first.now c.args.rest.now c.in-Some.start c.args.turns.now g.E.Core.least c.in-Some.ensures)
+    (links_end (around_of c.args.here.now.around) c.args.here.now.names.now c.in-Some.start.more.now c.in-Ok-link_turned.value _ c.requires.standing (both_end (around_of c.args.here.now.around) c.args.here.now.names.now (linked_at_start c.in-Some.start) c.in-Some.start.of.now c.in-Some.start.link.now.right c.in-Ok.left c.in-Ok-eval_expr.right _ c.requires.standing refl c.in-Ok.ensures.ends c.in-Ok.ensures.fits c.in-Ok-eval_expr.ensures.ends c.in-Ok-link_turned.ensures.ends) c.eval_links.ensures.ends)
+
+pub eval_chain-returns-in-Err-link_turned-clause-ends : goal.eval_chain-returns-in-Err-link_turned-clause-ends
+eval_chain-returns-in-Err-link_turned-clause-ends g t c =
+    ends_alike _ (chain_alike (around_of c.args.here.now.around) (state_by (g.E.Core.worker c.args.engine.now) c.args.here.now.names.now) c.args.first.now c.args.rest.now c.in-Some.start c.args.turns.now g.E.Core.least c.in-Some.ensures)
+    (first_err _ _ _ _ _ _ (λ r m. mean_by (around_of c.args.here.now.around) (state_by (g.E.Core.worker c.args.engine.now) c.args.here.now.names.now) r c.in-Some.start.more.now m) _ _ _ _ _ refl (both_end (around_of c.args.here.now.around) c.args.here.now.names.now (linked_at_start c.in-Some.start) c.in-Some.start.of.now c.in-Some.start.link.now.right c.in-Ok.left c.in-Ok-eval_expr.right _ c.requires.standing refl c.in-Ok.ensures.ends c.in-Ok.ensures.fits c.in-Ok-eval_expr.ensures.ends c.in-Err-link_turned.ensures.ends))
+
+pub eval_chain-returns-in-Err-eval_expr-clause-ends : goal.eval_chain-returns-in-Err-eval_expr-clause-ends
+eval_chain-returns-in-Err-eval_expr-clause-ends g t c =
+    ends_alike _ (chain_alike (around_of c.args.here.now.around) (state_by (g.E.Core.worker c.args.engine.now) c.args.here.now.names.now) c.args.first.now c.args.rest.now c.in-Some.start c.args.turns.now g.E.Core.least c.in-Some.ensures)
+    (first_err _ _ _ _ _ _ (λ r m. mean_by (around_of c.args.here.now.around) (state_by (g.E.Core.worker c.args.engine.now) c.args.here.now.names.now) r c.in-Some.start.more.now m) _ _ _ _ _ refl (goes_err _ _ _ _ _ _ _ _ _ _ _ (value_of (g.E.Core.worker c.eval_expr-in-Ok.new.engine)) (owed g.E.Core.least) _ (before_right (around_of c.args.here.now.around) c.args.here.now.names.now (linked_at_start c.in-Some.start) c.in-Some.start.of.now c.in-Some.start.link.now.right c.in-Ok.left c.requires.standing refl c.in-Ok.ensures.ends) c.in-Err-eval_expr.ensures.ends))
+
+pub eval_chain-returns-in-Ok-eval_expr-2-clause-ends : goal.eval_chain-returns-in-Ok-eval_expr-2-clause-ends
+eval_chain-returns-in-Ok-eval_expr-2-clause-ends g t c =
+    links_end (around_of c.args.here.now.around) c.args.here.now.names.now c.args.rest.now c.in-Ok-eval_expr-2.value _ c.requires.standing c.in-Ok-eval_expr-2.ensures.ends c.eval_links-in-Ok-eval_expr-2.ensures.ends
+
 pub eval_links-links-init : goal.eval_links-links-init
 eval_links-links-init g t c =
     record { goes = goes_start (g.E.Core.worker c.args.engine.now) c.args.turns.now _ (mean_by (around_of c.args.here.now.around) (state_by (g.E.Core.worker c.args.engine.now) c.args.here.now.names.now) (value_of (g.E.Core.worker c.args.engine.now) c.args.so_far.now) c.args.rest.now c.args.turns.now); stands = c.requires.value }

@@ -15,6 +15,9 @@ decreases-call g l = l.around.now.rank * scale l.around.now.checked.now.items.it
 abbrev pub decreases-eval_args : goal.decreases-eval_args
 decreases-eval_args g l = l.here.now.around.rank * scale l.here.now.around.checked.now.items.items + (4 * weight_of_args l.args.now + 1)
 
+abbrev pub decreases-eval_chain : goal.decreases-eval_chain
+decreases-eval_chain g l = l.here.now.around.rank * scale l.here.now.around.checked.now.items.items + (4 * (weight l.first.now + weight_of_links l.rest.now) + 3)
+
 abbrev pub decreases-eval_expr : goal.decreases-eval_expr
 decreases-eval_expr g l = l.here.now.around.rank * scale l.here.now.around.checked.now.items.items + 4 * weight l.expr.now
 
