@@ -8,6 +8,5 @@ pub mod Noting
 pub mod LineCounts
 pub mod LineLists
 pub mod Turning
-pub mod TurnedLists
 pub mod TurnedProducts
 pub mod Univalence

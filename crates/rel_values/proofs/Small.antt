@@ -46,7 +46,7 @@ unfolding square_room
 square_turned m n = ap (λ (x : ℕ). 4 ^ x) (let e : max (height_of m) (height_of n) ≡ max (height_of n) (height_of m) = omega arith in e)
 
 -- ---- at that height
-pub at_square : (m n x k : ℕ) → m ≤ size_limit → n ≤ size_limit → ((h : ℕ) → m ≤ 2 ^ h → n ≤ 2 ^ h → x ≤ k * 4 ^ h) → x ≤ k * square_room m n
+at_square : (m n x k : ℕ) → m ≤ size_limit → n ≤ size_limit → ((h : ℕ) → m ≤ 2 ^ h → n ≤ 2 ^ h → x ≤ k * 4 ^ h) → x ≤ k * square_room m n
 unfolding square_room
 at_square m n x k a b f =
     let h : ℕ = max (height_of m) (height_of n) in

@@ -17,17 +17,21 @@ use Rattle.rel_slices.specs.Thin.{IsLines}
 use Rattle.rel_slices.specs.ValueRooms.{transpose_room}
 use Rattle.rel_values.proofs.Small.{square_room}
 
+-- both ways give one set
 pub turned_set : (m n k : ℕ) (r s : Relation) → HasType m n r → HasType m k s → transpose (compose (transpose s) r) ≡ compose (transpose r) s
 turned_set m n k r s t u = transpose_laws.compose k m n (transpose s) r (type-transpose m k s u) t ∙ ap (compose (transpose r)) (transpose_laws.twice s u.valid)
 
+-- lines are turned without making a node
 pub lines_turned : (least : ℕ) (v : Value) → IsLines v → transpose_room least v ≡ 0
 lines_turned least (Whole r) l = absurd l
 lines_turned least (Lines s) l = refl
 
+-- a product costs the same as that of its transpositions
 pub product_turned : (k m n : ℕ) → product_room k m n ≡ product_room n m k
 unfolding product_room
 product_turned k m n = ap (λ (h : ℕ). 16 * 8 ^ h) (let e : height_of_three k m n ≡ height_of_three n m k = omega arith in e)
 
+-- fewer rows need no greater height
 height_narrow : (k m : ℕ) → k ≤ m → m ≤ size_limit → height_of k ≤ height_of m
 height_narrow k m l b = height_of-least k (height_of m) (omega (arith, l, height_of-covers m b))
 

@@ -4,7 +4,8 @@ use Rattle.rel_model.specs.declared.Lack.{Lack}
 use Rattle.rel_model.specs.declared.faults.DomainError.{DomainError}
 use Rattle.rel_model.specs.Relation.{Relation, size_limit}
 use Rattle.rel_model.specs.Domains.{HasDomainCause}
-use Rattle.rel_model.specs.Worker.{Worker, Keeps, MakesAtMost, HasCause}
+use Rattle.rel_model.specs.Operators.{compose, transpose}
+use Rattle.rel_model.specs.Worker.{Worker, Keeps, MakesAtMost, HasCause, product_room}
 use Rattle.rel_slices.specs.declared.thin.Value.{Value}
 use Rattle.rel_slices.specs.Thin.{ValueStands, value_of, value_rows, value_cols, IsLong, GivesValue, HasForm}
 use Rattle.rel_slices.specs.ValueRooms.{assembly_room}
@@ -35,6 +36,13 @@ pub record Operates (least : ℕ) (lean : Bool) (old new : Worker) (rows cols : 
   pub room : MakesAtMost cost old new
   pub owes : IfOk result (λ v. new.made + owed least v ≤ old.made + cost)
   pub cause : HasCause lean old new result
+
+-- `x^*y`: x, transposed within a cost of its own, is composed with y
+abbrev pub ComposesTurned : ℕ → Bool → Worker → Worker → Value → Value → ℕ → Result Value Lack → Type 0
+ComposesTurned least lean old new x y turning result =
+    Operates least lean old new (value_cols x) (value_cols y)
+    (compose (transpose (value_of old x)) (value_of old y))
+    (turning + product_room (value_cols x) (value_rows x) (value_cols y)) result
 
 -- the same for an operation whose answer may be too large, with wanted columns: it then makes no node
 pub record OperatesWithin (least : ℕ) (lean : Bool) (old new : Worker) (rows cols : ℕ) (set : Relation)

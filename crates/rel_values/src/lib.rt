@@ -2,7 +2,6 @@
 #![tactic(auto)]
 
 mod boole;
-mod by_list;
 mod choice;
 mod comparing;
 mod counting;

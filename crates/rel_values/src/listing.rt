@@ -48,7 +48,7 @@ fn places_of<E: Engine>(
 }
 
 /// Turns the pairs of a relation round, and puts them in order: the pairs of the transposition.
-pub(crate) fn turn(pairs: &mut [(u32, u32)])
+fn turn(pairs: &mut [(u32, u32)])
     ensures pairs { (r : Relation) → IsRelation r → pairs.old ≡ r.pairs → pairs.new ≡ (transpose r).pairs }
     ensures len { length pairs.new ≡ length pairs.old }
 {

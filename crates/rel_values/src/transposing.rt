@@ -5,29 +5,11 @@ ghost use Rattle.rel_model.specs.Worker.{Stands, set_of, Gives, Keeps, MakesAtMo
 ghost use Rattle.rel_slices.specs.Thin.{value_of, value_rows, value_cols};
 ghost use Rattle.rel_values.specs.Values.{Fits, Operates};
 
-use crate::by_list::transposed_by_list;
 use rel_model::{Lack, Rel};
 use rel_slices::{Remembers, Value};
-use std::alloc::Global;
-
-/// The transposition of a whole relation, by a list of its pairs if that pays, otherwise by the engine.
-fn transposed_anew<E: Remembers>(alloc: Global, engine: &mut E, r: Rel) -> Result<Rel, Lack>
-    requires { Stands (E.worker engine.old) r }
-    ensures value { IfOk result (Gives (E.worker engine.new) r.cols r.rows
-        (transpose_of (set_of (E.worker engine.old) r))) }
-    ensures keeps { Keeps (E.worker engine.old) (E.worker engine.new) }
-    ensures room { MakesAtMost (operator_room r.rows r.cols) (E.worker engine.old) (E.worker engine.new) }
-    ensures cause { HasCause E.lean (E.worker engine.old) (E.worker engine.new) result }
-{
-    let listed = transposed_by_list(alloc, engine, r)?;
-    match listed {
-        Some(transposed) => Ok(transposed),
-        None => engine.transpose(r),
-    }
-}
 
 /// The transposition of a whole relation, recalled if it is remembered, and otherwise made and noted.
-fn whole_transposed<E: Remembers>(alloc: Global, engine: &mut E, r: Rel) -> Result<Rel, Lack>
+fn whole_transposed<E: Remembers>(engine: &mut E, r: Rel) -> Result<Rel, Lack>
     requires { Stands (E.worker engine.old) r }
     ensures value { IfOk result (Gives (E.worker engine.new) r.cols r.rows
         (transpose_of (set_of (E.worker engine.old) r))) }
@@ -38,18 +20,14 @@ fn whole_transposed<E: Remembers>(alloc: Global, engine: &mut E, r: Rel) -> Resu
     if let Some(transposed) = engine.transposed(r) {
         return Ok(transposed);
     }
-    let transposed = transposed_anew(alloc, engine, r)?;
+    let transposed = engine.transpose(r)?;
     engine.note_transposed(r, transposed);
     Ok(transposed)
 }
 
 /// `R^ = {(j, i) : (i, j) in r}`: the transposition (Schmidt and Ströhlein). Lines are transposed without making a
 /// node, and a whole value stays whole.
-pub(crate) fn transposed<E: Remembers>(
-    alloc: Global,
-    engine: &mut E,
-    v: &Value,
-) -> Result<Value, Lack>
+pub(crate) fn transposed<E: Remembers>(engine: &mut E, v: &Value) -> Result<Value, Lack>
     requires fits { Fits (E.worker engine.old) v.now }
     ensures operates { let w = E.worker engine.old in Operates E.least E.lean w (E.worker engine.new)
         (value_cols v.now) (value_rows v.now)
@@ -58,7 +36,7 @@ pub(crate) fn transposed<E: Remembers>(
 {
     match v {
         Value::Whole(r) => {
-            let turned = whole_transposed(alloc, engine, *r)?;
+            let turned = whole_transposed(engine, *r)?;
             Ok(Value::Whole(turned))
         }
         Value::Lines(_) => {
@@ -69,12 +47,7 @@ pub(crate) fn transposed<E: Remembers>(
 }
 
 /// `R^...^`: a value transposed `times` times.
-pub fn turned<E: Remembers>(
-    alloc: Global,
-    engine: &mut E,
-    v: &Value,
-    times: u32,
-) -> Result<Value, Lack>
+pub fn turned<E: Remembers>(engine: &mut E, v: &Value, times: u32) -> Result<Value, Lack>
     requires fits { Fits (E.worker engine.old) v.now }
     ensures operates { let w = E.worker engine.old in Operates E.least E.lean w (E.worker engine.new)
         (transposed_by times (value_of w v.now)).rows (transposed_by times (value_of w v.now)).cols
@@ -84,5 +57,5 @@ pub fn turned<E: Remembers>(
     if times % 2 == 0 {
         return Ok(*v);
     }
-    transposed(alloc, engine, v)
+    transposed(engine, v)
 }

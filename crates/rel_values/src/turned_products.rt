@@ -1,9 +1,8 @@
 //! Compositions with a transposition on the left, which need not be made.
-ghost use Rattle.std.specs.Prelude.{◌≡◌, ◌≤◌, ◌+◌};
-ghost use Rattle.rel_model.specs.Operators.{compose as compose_of, transpose as transpose_of};
-ghost use Rattle.rel_model.specs.Worker.{operator_room, plain_room, product_room};
-ghost use Rattle.rel_slices.specs.Thin.{IsLines, HasForm, value_of, value_rows, value_cols};
-ghost use Rattle.rel_values.specs.Values.{Fits, Operates};
+ghost use Rattle.std.specs.Prelude.{◌≡◌, ◌≤◌};
+ghost use Rattle.rel_model.specs.Worker.{operator_room, plain_room};
+ghost use Rattle.rel_slices.specs.Thin.{IsLines, HasForm, value_rows, value_cols};
+ghost use Rattle.rel_values.specs.Values.{Fits, ComposesTurned};
 
 use crate::products::{SMALL, compose};
 use crate::shaping::in_form;
@@ -22,13 +21,10 @@ fn by_transposition<E: Remembers>(
     requires left { Fits (E.worker engine.old) x.now }
     requires right { Fits (E.worker engine.old) y.now }
     requires rows { value_rows x.now ≡ value_rows y.now }
-    ensures operates { let w = E.worker engine.old in Operates E.least E.lean w (E.worker engine.new)
-        (value_cols x.now) (value_cols y.now)
-        (compose_of (transpose_of (value_of w x.now)) (value_of w y.now))
-        (operator_room (value_rows x.now) (value_cols x.now)
-        + product_room (value_cols x.now) (value_rows x.now) (value_cols y.now)) result }
+    ensures operates { ComposesTurned E.least E.lean (E.worker engine.old) (E.worker engine.new) x.now y.now
+        (operator_room (value_rows x.now) (value_cols x.now)) result }
 {
-    let turned = transposed(alloc, engine, x)?;
+    let turned = transposed(engine, x)?;
     compose(alloc, engine, &turned, y)
 }
 
@@ -45,15 +41,12 @@ fn by_lines<E: Remembers>(
     requires lines { IsLines y.now }
     requires rows { value_rows x.now ≡ value_rows y.now }
     requires tall { value_cols y.now ≤ value_rows y.now }
-    ensures operates { let w = E.worker engine.old in Operates E.least E.lean w (E.worker engine.new)
-        (value_cols x.now) (value_cols y.now)
-        (compose_of (transpose_of (value_of w x.now)) (value_of w y.now))
-        (operator_room (value_rows x.now) (value_cols x.now)
-        + product_room (value_cols x.now) (value_rows x.now) (value_cols y.now)) result }
+    ensures operates { ComposesTurned E.least E.lean (E.worker engine.old) (E.worker engine.new) x.now y.now
+        (operator_room (value_rows x.now) (value_cols x.now)) result }
 {
     let turned = transpose(engine, y)?;
     let product = compose(alloc, engine, &turned, x)?;
-    transposed(alloc, engine, &product)
+    transposed(engine, &product)
 }
 
 /// `R^*S` for an S in the form of its sizes that has no more columns than rows.
@@ -63,11 +56,8 @@ fn by_form<E: Remembers>(alloc: Global, engine: &mut E, x: &Value, y: &Value) ->
     requires form { HasForm y.now }
     requires rows { value_rows x.now ≡ value_rows y.now }
     requires tall { value_cols y.now ≤ value_rows y.now }
-    ensures operates { let w = E.worker engine.old in Operates E.least E.lean w (E.worker engine.new)
-        (value_cols x.now) (value_cols y.now)
-        (compose_of (transpose_of (value_of w x.now)) (value_of w y.now))
-        (operator_room (value_rows x.now) (value_cols x.now)
-        + product_room (value_cols x.now) (value_rows x.now) (value_cols y.now)) result }
+    ensures operates { ComposesTurned E.least E.lean (E.worker engine.old) (E.worker engine.new) x.now y.now
+        (operator_room (value_rows x.now) (value_cols x.now)) result }
 {
     match y {
         Value::Lines(_) => by_lines(alloc, engine, x, y),
@@ -86,11 +76,8 @@ pub fn compose_turned<E: Remembers>(
     requires left { Fits (E.worker engine.old) x.now }
     requires right { Fits (E.worker engine.old) y.now }
     requires rows { value_rows x.now ≡ value_rows y.now }
-    ensures operates { let w = E.worker engine.old in Operates E.least E.lean w (E.worker engine.new)
-        (value_cols x.now) (value_cols y.now)
-        (compose_of (transpose_of (value_of w x.now)) (value_of w y.now))
-        (plain_room (value_rows x.now) (value_cols x.now)
-        + product_room (value_cols x.now) (value_rows x.now) (value_cols y.now)) result }
+    ensures operates { ComposesTurned E.least E.lean (E.worker engine.old) (E.worker engine.new) x.now y.now
+        (plain_room (value_rows x.now) (value_cols x.now)) result }
 {
     let (left, right) = (shape_of(x), shape_of(y));
     if left.cols <= SMALL || right.rows < right.cols {

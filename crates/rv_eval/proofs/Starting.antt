@@ -24,6 +24,7 @@ use Rattle.rv_eval.specs.declared.here.Start.{Start}
 use Rattle.rv_eval.specs.Turned.{dearer, turned_linked, mean_start, StartsTurned}
 
 -- ---- the links
+-- the first of some links, and the others
 pub split : (ls more : List Link) (l d : Link) → 0 < length ls → l ≡ get_or ls 0 d → more ≡ take (length ls - 1) (drop 1 ls) → ls ≡ l ∷ more
 split [] more l d h e m = absurd (omega (arith, h))
 split (x ∷ xs) more l d h e m =
@@ -36,10 +37,12 @@ pub record Alike (leaf : ℕ) {T : Type 0} (x y : Came T) : Type 0 where
   pub answer : x.answer ≡ y.answer
   pub cost : x.cost leaf ≤ y.cost leaf
 
+-- what is owed within a cost is owed within a greater one
 owes_alike : {X : Type 0} (a b start less more : ℕ) (owing : X → ℕ) (r : Result X Halt) → less ≤ more → IfOk r (λ x. b + owing x ≤ a + (start + less)) → IfOk r (λ x. b + owing x ≤ a + (start + more))
 owes_alike a b start less more owing (Ok x) l o = omega (arith, l, o)
 owes_alike a b start less more owing (Err h) l o = tt
 
+-- what ends as one meaning ends as another that is alike
 pub ends_alike : {leaf : ℕ} {T X : Type 0} {old new : Worker} {before left start : ℕ} {x y : Came T} {is : X → T} {owing : X → ℕ} (r : Result X Halt)
     → Alike leaf x y → Ends leaf old new before left start x is owing r → Ends leaf old new before left start y is owing r
 ends_alike {leaf} {old = old} {new = new} {left = left} {start = start} {x = x} {y = y} {is = is} {owing = owing} r a e = record {
@@ -103,6 +106,7 @@ chain_alike a s first ls start n leaf h =
     subst (λ z. Alike leaf (and_then (mean_start a s start n) next) z) (sym e) (start_alike link.at start.times (mean a s link.right) next leaf x)
 
 -- ---- the operation
+-- what performs an operation performs it at a greater cost
 pub dearer_performs : {leaf : ℕ} {old new : Worker} (o : Operation) (dear : Cost) {r : Result Value Halt} → Performs leaf old new o r → Performs leaf old new (dearer dear o) r
 dearer_performs (Makes x cost) dear {r = r} p = record { ends = ends_alike r (record { answer = refl; cost = omega arith }) p.ends; fits = p.fits }
 dearer_performs (Refuses why) dear p = p

@@ -34,8 +34,11 @@ mean_start around state start n =
 
 -- the first operand of a chain is a transposition, and its first operator a composition
 pub record StartsTurned (first : Expr) (rest : List Link) (start : Start) : Type 0 where
+  -- the first operand means what its own operand does, transposed
   pub means : (around : Around) (state : State) (n : ℕ) → mean around state first n
       ≡ and_then (mean around state start.of.now n) (λ r m. with_turns (turned start.times r) m)
+  -- it is one node larger, so that its operand is a smaller expression
   pub weighs : weight first ≡ weight start.of.now + 1
+  -- the links are the composition and those that follow it
   pub links : rest ≡ start.link.now ∷ start.more.now
   pub composes : start.link.now.op ≡ Times

@@ -61,17 +61,12 @@ pub fn complement<E: Remembers>(engine: &mut E, r: &Value) -> Result<Value, Halt
 }
 
 /// `R^...^`: a relation transposed `times` times.
-pub fn transposed<E: Remembers>(
-    alloc: Global,
-    engine: &mut E,
-    r: &Value,
-    times: u32,
-) -> Result<Value, Halt>
+pub fn transposed<E: Remembers>(engine: &mut E, r: &Value, times: u32) -> Result<Value, Halt>
     requires standing { Fits (E.worker engine.old) r.now }
     ensures { let w = E.worker engine.old in
         Performs E.least w (E.worker engine.new) (turned times (value_of w r.now)) result }
 {
-    lift(rel_values::turned(alloc, engine, r, times))
+    lift(rel_values::turned(engine, r, times))
 }
 
 /// `R | S`, `R & S`, `R * S`, `R \ S` or `R / S`, for operands that fit.

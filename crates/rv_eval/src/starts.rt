@@ -8,7 +8,8 @@ use lang_model::syntax::{Expr, Link, Op2};
 
 /// The first link of a chain, if it is a composition.
 fn composed(rest: &[Link]) -> Option<&Link>
-    ensures { IfSome result (λ l. (0 < length rest.now) × (l.now ≡ get_or rest.now 0 l.now) × (l.now.op ≡ Times)) }
+    ensures { IfSome result (λ l.
+        (0 < length rest.now) × (l.now ≡ get_or rest.now 0 l.now) × (l.now.op ≡ Times)) }
 {
     if rest.is_empty() {
         return None;

@@ -61,7 +61,7 @@ pub fn eval_expr<E: Remembers>(
             Err(halt) => Err(halt),
         },
         Expr::Turned { of, times, .. } => match eval_expr(engine, here, of, turns) {
-            Ok(operand) => transposed(here.around.alloc, engine, &operand, *times),
+            Ok(operand) => transposed(engine, &operand, *times),
             Err(halt) => Err(halt),
         },
         Expr::Chain { first, rest } => eval_chain(engine, here, first, rest.as_slice(), turns),

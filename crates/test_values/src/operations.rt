@@ -109,7 +109,7 @@ fn of_one<E: Remembers>(alloc: Global, engine: &mut E, op: Op, x: &Value) -> Res
 {
     match op {
         Op::Complement => complement(engine, x),
-        Op::Turned(times) => turned(alloc, engine, x, times),
+        Op::Turned(times) => turned(engine, x, times),
         Op::Dom => dom(alloc, engine, x),
         Op::Ran => ran(alloc, engine, x),
         _ => atom(engine, x),

@@ -12,7 +12,7 @@ use crate::tests::lie_within;
 use crate::trial::{Trial, on_a_table};
 use rel_model::{Rel, Shape};
 use rel_slices::{Remembers, Value, formed};
-use rel_values::{count, pairs_within, turned, unival, whole};
+use rel_values::{count, pairs_within, unival, whole};
 use std::alloc::Global;
 use std::process::Abort;
 use std::thread::Threads;
@@ -116,43 +116,6 @@ pub(crate) fn maps_are_told<E: Remembers>(
     }
 }
 
-/// Asserts that a sparse map by chance turns into what the engine transposes it to. A large one goes by the list of its
-/// pairs, which is kept: it has the pairs turned round, in order.
-pub(crate) fn maps_are_turned<E: Remembers>(
-    rt: &impl Abort,
-    alloc: Global,
-    engine: &mut E,
-    size: u32,
-) {
-    let shape = Shape {
-        rows: size,
-        cols: size,
-    };
-    let mut pairs = map_by_chance(rt, alloc, size, None);
-    pairs.truncate(size as usize / 8);
-    let r = of_pairs(rt, alloc, engine, shape, &pairs);
-    let Ok(Value::Whole(found)) = turned(alloc, engine, &Value::Whole(r), 1) else {
-        panic!(rt; "refused")
-    };
-    let kept = engine.take_listing(found);
-    let Ok(wanted) = engine.transpose(r) else {
-        panic!(rt; "no room")
-    };
-    assert!(rt; found == wanted, "{size}");
-    'pairs: for pair in &mut pairs {
-        *pair = (pair.1, pair.0);
-    }
-    pairs.sort_unstable();
-    let Ok(listed) = rel_values::pairs(alloc, engine, &Value::Whole(found)) else {
-        panic!(rt; "no memory")
-    };
-    assert!(rt; listed.as_slice() == pairs.as_slice(), "{size}");
-    assert!(rt; kept.is_some() || size < 4096, "not kept");
-    if let Some(kept) = kept {
-        assert!(rt; kept.as_slice() == pairs.as_slice(), "{size}");
-    }
-}
-
 /// A relation as a value: in the form of its sizes, or whole even if it is thin.
 fn valued<E: Remembers>(rt: &impl Abort, engine: &mut E, r: Rel, is_formed: bool) -> Value
     requires { Stands (E.worker engine.old) r }
@@ -238,14 +201,6 @@ fn scattered_maps_are_counted_listed_and_told_from_relations(rt: HostRuntime) {
     on_a_table(&rt, rt.alloc(), Trial::Maps(300));
     on_a_table(&rt, rt.alloc(), Trial::Maps(1025));
     on_a_table(&rt, rt.alloc(), Trial::Maps(4096));
-}
-
-#[test]
-fn scattered_maps_are_turned_as_the_engine_transposes_them(rt: HostRuntime) {
-    on_a_table(&rt, rt.alloc(), Trial::Turned(2));
-    on_a_table(&rt, rt.alloc(), Trial::Turned(300));
-    on_a_table(&rt, rt.alloc(), Trial::Turned(1025));
-    on_a_table(&rt, rt.alloc(), Trial::Turned(4096));
 }
 
 #[test]

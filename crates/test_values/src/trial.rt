@@ -15,7 +15,7 @@ use std::process::Abort;
 use std::thread::Threads;
 
 /// A trial: an operation at some sizes, the tests of two values, their counts, a pairing that is too wide, what the
-/// engine remembers, maps by chance of a size, the transposition of one, or thin relations by chance of some sizes.
+/// engine remembers, maps by chance of a size, or thin relations by chance of some sizes.
 pub(crate) enum Trial {
     Operation(Op, Sizes),
     Tests(Shape),
@@ -23,7 +23,6 @@ pub(crate) enum Trial {
     TooWide,
     Remembers,
     Maps(u32),
-    Turned(u32),
     Wholes(Shape),
 }
 
@@ -36,7 +35,6 @@ fn put<E: Remembers>(rt: &impl Abort, alloc: Global, engine: &mut E, trial: Tria
         Trial::TooWide => tests::is_too_wide(rt, engine),
         Trial::Remembers => remembered::are_told_apart(rt, alloc, engine),
         Trial::Maps(size) => scattered::maps_are_told(rt, alloc, engine, size),
-        Trial::Turned(size) => scattered::maps_are_turned(rt, alloc, engine, size),
         Trial::Wholes(shape) => scattered::wholes_agree_with_lines(rt, alloc, engine, shape),
     }
 }
