@@ -11,6 +11,9 @@ use rel_model::{NoMemory, Quad, Quarters, Rel};
 use std::alloc::Global;
 use std::collections::HashMap;
 
+/// Once so many sums are remembered, only those of each third height are.
+const MANY: usize = 4096;
+
 /// How many pairs a relation has, as a sum over a shared tree that remembers the sums of its parts (Knuth). The empty
 /// relation, and one whose tree is a leaf, take no memory. Refused only if memory runs out.
 pub fn count<Q: Quads>(alloc: Global, q: &mut Q, r: Rel) -> Result<u64, NoMemory>
@@ -27,7 +30,14 @@ pub fn count<Q: Quads>(alloc: Global, q: &mut Q, r: Rel) -> Result<u64, NoMemory
     counted(q, &mut counts, quad)
 }
 
-/// How many cells a quad has. Each quad above the leaves is counted once.
+/// Whether the sum of a quad of this height need not be remembered beside so many others. A large tree has most of its
+/// quads once, and to look for a sum takes longer than to open a few quads; a small one is remembered whole.
+fn is_passed_over(remembered: usize, height: u8) -> bool {
+    remembered > MANY && height % 3 != 0
+}
+
+/// How many cells a quad has. A quad whose sum is remembered is opened once, and each other one for the quads that are
+/// opened over it, up to the next height at which sums are remembered.
 #[cycle(counted)]
 fn counted<Q: Quads>(
     q: &mut Q,
@@ -50,6 +60,9 @@ fn counted<Q: Quads>(
     if quad.height == q.bottom() {
         let bits = q.bits(quad);
         return Ok(u64::from(bits.count_ones()));
+    }
+    if is_passed_over(counts.len(), quad.height) {
+        return counted_over(q, counts, quad);
     }
     if let Some(found) = counts.get(&(quad.height, quad.name)).copied() {
         return Ok(found);
@@ -75,7 +88,7 @@ fn counted_over<Q: Quads>(
     ensures room { MakesAtMost 0 (Q.worker q.old) (Q.worker q.new) }
     ensures misses { MissesNothing (Q.worker q.old) (Q.worker q.new) }
 {
-    let Quarters { nw, ne, sw, se } = q.quarters(quad);
+    let Quarters { nw, ne, sw, se } = q.quarters_ahead(quad);
     let north_west = counted(q, counts, nw)?;
     let north_east = counted(q, counts, ne)?;
     let south_west = counted(q, counts, sw)?;

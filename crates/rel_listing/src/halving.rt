@@ -1,5 +1,5 @@
 //! The two halves of a strip: its northern and its southern quarters.
-ghost use Rattle.std.specs.Prelude.{◌≡◌, ◌<◌, ◌≤◌, ◌+◌, ◌^◌, ◌++◌, OnOk, []};
+ghost use Rattle.std.specs.Prelude.{◌≡◌, ◌<◌, ◌≤◌, ◌+◌, ◌^◌, ◌++◌, IfOk, OnOk, []};
 ghost use Rattle.rel_model.specs.Relation.{size_limit};
 ghost use Rattle.rel_model.specs.Worker.{HasQuad};
 ghost use Rattle.rel_steps.specs.Reading.{OnlyReads};
@@ -8,6 +8,7 @@ ghost use Rattle.rel_listing.specs.Strips.{IsStrip, kept, Halves, Quartered};
 use rel_model::empty::side_of;
 use rel_model::quads_trait::Quads;
 use rel_model::{NoMemory, Quad, Quarters};
+use std::alloc::Global;
 
 /// How many quads a strip has at least if their words are read before the first is opened. A guess: it only costs time.
 const MANY: usize = 8;
@@ -25,6 +26,14 @@ fn read_strip<Q: Quads>(q: &mut Q, strip: &[(Quad, u32)], height: u8)
     'quads: for (quad, _) in strip {
         q.read_ahead(*quad);
     }
+}
+
+/// An empty strip with room for so many quads, so that a half of a sparse strip seldom grows.
+pub(crate) fn room_for_strip(alloc: Global, quads: usize) -> Result<Vec<(Quad, u32)>, NoMemory>
+    ensures { IfOk result (λ v. v.items ≡ []) }
+{
+    let strip = Vec::with_capacity(alloc, quads)?;
+    Ok(strip)
 }
 
 /// Puts the quarters, of a height, of a strip's quads into two strips, from left to right.

@@ -6,7 +6,7 @@ ghost use Rattle.rel_steps.specs.Reading.{OnlyReads};
 ghost use Rattle.rel_listing.specs.Lists.{Adds};
 ghost use Rattle.rel_listing.specs.Strips.{IsStrip, laid};
 
-use crate::halving::halve;
+use crate::halving::{halve, room_for_strip};
 use crate::rows::list_rows;
 use crate::words::{cells_of, words_of};
 use rel_model::empty::side_of;
@@ -123,8 +123,8 @@ fn list_strip<Q: Quads>(
         list_rows(pairs, &words, side_of(height), row)?;
         return Ok(());
     }
-    let mut upper = Vec::new(alloc);
-    let mut lower = Vec::new(alloc);
+    let mut upper = room_for_strip(alloc, strip.len())?;
+    let mut lower = room_for_strip(alloc, strip.len())?;
     halve(q, strip, height - 1, &mut upper, &mut lower)?;
     list_strip(alloc, q, pairs, &upper, height - 1, row, most)?;
     let middle = row + side_of(height - 1);

@@ -18,7 +18,7 @@ pub(crate) fn words_of<Q: Quads>(
     ensures words { IfOk result (λ v. AreWords (Q.worker q.old) (2 ^ Q.least) strip.now v.items) }
     ensures reads { OnlyReads (Q.worker q.old) (Q.worker q.new) }
 {
-    let mut words = Vec::new(alloc);
+    let mut words = Vec::with_capacity(alloc, strip.len())?;
     'quads: for (quad, column) in strip {
         let bits = q.bits(*quad);
         words.push((bits, *column))?;

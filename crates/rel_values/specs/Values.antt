@@ -37,13 +37,6 @@ pub record Operates (least : ℕ) (lean : Bool) (old new : Worker) (rows cols : 
   pub owes : IfOk result (λ v. new.made + owed least v ≤ old.made + cost)
   pub cause : HasCause lean old new result
 
--- `x^*y`: x, transposed within a cost of its own, is composed with y
-abbrev pub ComposesTurned : ℕ → Bool → Worker → Worker → Value → Value → ℕ → Result Value Lack → Type 0
-ComposesTurned least lean old new x y turning result =
-    Operates least lean old new (value_cols x) (value_cols y)
-    (compose (transpose (value_of old x)) (value_of old y))
-    (turning + product_room (value_cols x) (value_rows x) (value_cols y)) result
-
 -- the same for an operation whose answer may be too large, with wanted columns: it then makes no node
 pub record OperatesWithin (least : ℕ) (lean : Bool) (old new : Worker) (rows cols : ℕ) (set : Relation)
     (cost wanted : ℕ) (result : Result Value DomainError) : Type 0 where
@@ -54,3 +47,10 @@ pub record OperatesWithin (least : ℕ) (lean : Bool) (old new : Worker) (rows c
   pub owes : IfOk result (λ v. new.made + owed least v ≤ old.made + cost)
   pub nothing : size_limit < wanted → MakesAtMost 0 old new
   pub cause : HasDomainCause lean wanted old new result
+
+-- `x^*y`: x is transposed and composed with y; `turning` is the cost of the transposition
+abbrev pub ComposesTurned : ℕ → Bool → Worker → Worker → Value → Value → ℕ → Result Value Lack → Type 0
+ComposesTurned least lean old new x y turning result =
+    Operates least lean old new (value_cols x) (value_cols y)
+    (compose (transpose (value_of old x)) (value_of old y))
+    (turning + product_room (value_cols x) (value_rows x) (value_cols y)) result

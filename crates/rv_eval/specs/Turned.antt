@@ -41,4 +41,5 @@ pub record StartsTurned (first : Expr) (rest : List Link) (start : Start) : Type
   pub weighs : weight first ≡ weight start.of.now + 1
   -- the links are the composition and those that follow it
   pub links : rest ≡ start.link.now ∷ start.more.now
+  -- that operator is a composition
   pub composes : start.link.now.op ≡ Times
