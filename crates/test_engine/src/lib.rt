@@ -1,10 +1,19 @@
-//! Tests of the engine: all operations of the language compared with what their membership clauses say of lists of
-//! pairs.
+//! Tests of an engine over a node table, and of images, lines and values over it, against slow answers.
 #![tactic(auto)]
 
 #[cfg(test)]
+mod cells;
+#[cfg(test)]
+mod images;
+#[cfg(test)]
+mod lists;
+#[cfg(test)]
+mod made;
+#[cfg(test)]
 mod operations;
 #[cfg(test)]
-mod slow;
+mod slices;
 #[cfg(test)]
-mod tests;
+mod trial;
+#[cfg(test)]
+mod values;

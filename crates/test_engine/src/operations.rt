@@ -1,269 +1,222 @@
-//! The operations that give a relation, and an engine's answers to them.
-ghost use Rattle.std.specs.Prelude.{◌≡◌, ◌≤◌, IfSome, IfOk};
+//! All operations of an engine over a node table, compared with their membership clauses on lists of pairs.
+#![tactic(auto, using(rel_model::proofs::Workers::keeps_stands, rel_model::proofs::Workers::keeps_trans, rel_model::proofs::Workers::gives_stands))]
+
+mod calls;
+mod slow;
+
+ghost use Rattle.std.specs.Prelude.{◌≡◌};
 ghost use Rattle.rel_model.specs.Worker.{Stands, Keeps};
 
+use crate::lists::{places_by_chance, put};
+use crate::made::of_pairs;
+use crate::trial::table;
+use calls::{OPERATIONS, Operation, answer};
+use fork_quads::{Crew, OpenGate};
+use rel_engine::Works;
 use rel_model::core_trait::Core;
 use rel_model::engine_trait::Engine;
-use rel_model::faults::DomainError;
-use rel_model::{Lack, Rel, Shape};
+use rel_model::{Rel, Shape};
+use slow::{Listed, is_in, shape_of};
+use std::alloc::Global;
 use std::process::Abort;
 
-/// An operation on two relations, on one, or on sizes only.
-#[derive(Clone, Copy, Debug, PartialEq, Eq)]
-pub(crate) enum Operation {
-    Empty,
-    Full,
-    Single,
-    Union,
-    Inter,
-    Diff,
-    Transpose,
-    Compose,
-    Right,
-    Left,
-    Syq,
-    Trans,
-    Refl,
-    Identity,
-    First,
-    Second,
-    Inl,
-    Inr,
-    Epsi,
-    Fork,
-    Inj,
-    Point,
-    Atom,
-    Init,
-    Next,
-    Dom,
-    Ran,
+/// Asserts that a relation has these sizes and exactly the pairs of a list, by every call that answers about them.
+fn has_exactly<E: Engine>(rt: &impl Abort, alloc: Global, engine: &mut E, r: Rel, list: &Listed)
+    requires standing { Stands (E.worker engine.old) r }
+    ensures keeps { Keeps (E.worker engine.old) (E.worker engine.new) }
+{
+    assert_eq!(rt; (r.rows, r.cols), (list.shape.rows, list.shape.cols));
+    walks_over(rt, engine, r, list.pairs.as_slice());
+    'rows: for i in 0..r.rows {
+        'cols: for j in 0..r.cols {
+            let found = engine.has(r, i, j);
+            assert_eq!(rt; found, list.has(i, j), "at {i}, {j}");
+        }
+    }
+    assert_eq!(rt; engine.count(alloc, r), Ok(list.pairs.len() as u64));
+    assert_eq!(rt; engine.is_empty(r), list.pairs.is_empty());
+    assert_eq!(rt; engine.unival(r), list.is_unival());
 }
 
-/// All of them.
-pub(crate) const OPERATIONS: [Operation; 27] = [
-    Operation::Empty,
-    Operation::Full,
-    Operation::Single,
-    Operation::Union,
-    Operation::Inter,
-    Operation::Diff,
-    Operation::Transpose,
-    Operation::Compose,
-    Operation::Right,
-    Operation::Left,
-    Operation::Syq,
-    Operation::Trans,
-    Operation::Refl,
-    Operation::Identity,
-    Operation::First,
-    Operation::Second,
-    Operation::Inl,
-    Operation::Inr,
-    Operation::Epsi,
-    Operation::Fork,
-    Operation::Inj,
-    Operation::Point,
-    Operation::Atom,
-    Operation::Init,
-    Operation::Next,
-    Operation::Dom,
-    Operation::Ran,
+/// Asserts that a walk over a relation meets these pairs, in this order, and no other.
+fn walks_over<E: Engine>(rt: &impl Abort, engine: &mut E, r: Rel, pairs: &[(u32, u32)])
+    requires standing { Stands (E.worker engine.old) r }
+    ensures keeps { Keeps (E.worker engine.old) (E.worker engine.new) }
+{
+    let mut after = None;
+    'pairs: for (i, j) in pairs {
+        let next = engine.next_pair(r, after);
+        assert_eq!(rt; next, Some((*i, *j)));
+        after = next;
+    }
+    assert_eq!(rt; engine.next_pair(r, after), None);
+}
+
+/// The result of an operation by its membership clause, if the operands fit.
+fn counted_out(
+    rt: &impl Abort,
+    alloc: Global,
+    operation: Operation,
+    r: &Listed,
+    s: &Listed,
+) -> Option<Listed> {
+    let (rows, cols) = shape_of(operation, r, s)?;
+    let mut pairs = Vec::new(alloc);
+    'rows: for i in 0..rows {
+        'cols: for j in 0..cols {
+            if is_in(operation, r, s, i, j) {
+                put(rt, &mut pairs, (i, j));
+            }
+        }
+    }
+    let shape = Shape { rows, cols };
+    Some(Listed { shape, pairs })
+}
+
+/// Asserts that an operation on two relations gives what its membership clause says of their lists, or fits neither.
+/// Answers whether it fits.
+fn agrees<E: Engine>(
+    rt: &impl Abort,
+    alloc: Global,
+    engine: &mut E,
+    operation: Operation,
+    left: &Listed,
+    right: &Listed,
+) -> bool
+    ensures keeps { Keeps (E.worker engine.old) (E.worker engine.new) }
+{
+    let r = of_pairs(rt, alloc, engine, left.shape, &left.pairs);
+    let s = of_pairs(rt, alloc, engine, right.shape, &right.pairs);
+    let given = answer(rt, engine, operation, r, s);
+    match (given, counted_out(rt, alloc, operation, left, right)) {
+        (Some(rel), Some(list)) => {
+            has_exactly(rt, alloc, engine, rel, &list);
+            true
+        }
+        (None, None) => false,
+        _ => panic!(rt; "{operation:?} fits for one of both"),
+    }
+}
+
+/// Asserts that all operations on two relations give what their membership clauses say. Answers how many fit.
+fn all_agree<E: Engine>(
+    rt: &impl Abort,
+    alloc: Global,
+    engine: &mut E,
+    left: &Listed,
+    right: &Listed,
+) -> u64
+    ensures keeps { Keeps (E.worker engine.old) (E.worker engine.new) }
+{
+    let mut fitting: u64 = 0;
+    'operations: for operation in OPERATIONS {
+        if agrees(rt, alloc, engine, operation, left, right) {
+            fitting = fitting.wrapping_add(1);
+        }
+    }
+    one_set_is_the_same(rt, alloc, engine, left, right);
+    fitting
+}
+
+/// Asserts that two relations of one type are the same if and only if their lists are.
+fn one_set_is_the_same<E: Engine>(
+    rt: &impl Abort,
+    alloc: Global,
+    engine: &mut E,
+    left: &Listed,
+    right: &Listed,
+)
+    ensures keeps { Keeps (E.worker engine.old) (E.worker engine.new) }
+{
+    let r = of_pairs(rt, alloc, engine, left.shape, &left.pairs);
+    let s = of_pairs(rt, alloc, engine, right.shape, &right.pairs);
+    if r.rows == s.rows && r.cols == s.cols {
+        let equal = left.pairs.as_slice() == right.pairs.as_slice();
+        assert_eq!(rt; engine.same(r, s), equal);
+    }
+}
+
+/// The relation of a number: its bits, lowest first, say row by row which pairs are in it.
+fn of_number(rt: &impl Abort, alloc: Global, shape: Shape, number: u32) -> Listed {
+    let mut pairs = Vec::new(alloc);
+    let mut left = number;
+    'rows: for i in 0..shape.rows {
+        'cols: for j in 0..shape.cols {
+            if left % 2 == 1 {
+                put(rt, &mut pairs, (i, j));
+            }
+            left /= 2;
+        }
+    }
+    Listed { shape, pairs }
+}
+
+/// A pseudo-random relation that has about one pair in a given number.
+fn some_of(rt: &impl Abort, alloc: Global, shape: Shape, one_in: u64, seed: u64) -> Listed {
+    let pairs = places_by_chance(rt, alloc, shape, one_in, seed);
+    Listed { shape, pairs }
+}
+
+/// The shapes with sizes up to 2, and how many relations each of them has.
+const SMALL: [(u32, u32, u32); 9] = [
+    (0, 0, 1),
+    (0, 1, 1),
+    (0, 2, 1),
+    (1, 0, 1),
+    (1, 1, 2),
+    (1, 2, 4),
+    (2, 0, 1),
+    (2, 1, 4),
+    (2, 2, 16),
 ];
 
-/// The answer of an operator that is not refused.
-fn given(rt: &impl Abort, answer: Result<Rel, Lack>) -> Rel
-    ensures { answer ≡ Ok result }
-{
-    match answer {
-        Ok(rel) => rel,
-        Err(_) => panic!(rt; "refused"),
-    }
-}
-
-/// The answer of a call on domains that is not refused.
-fn wanted(rt: &impl Abort, answer: Result<Rel, DomainError>) -> Rel
-    ensures { answer ≡ Ok result }
-{
-    match answer {
-        Ok(rel) => rel,
-        Err(_) => panic!(rt; "refused"),
-    }
-}
-
-/// The sizes of a relation.
-fn shape_of(r: Rel) -> Shape
-    ensures { result ≡ record { rows = r.rows; cols = r.cols } }
-{
-    Shape {
-        rows: r.rows,
-        cols: r.cols,
-    }
-}
-
-/// The result of an operation, if the operands fit.
-pub(crate) fn answer<E: Engine>(
-    rt: &impl Abort,
-    engine: &mut E,
-    operation: Operation,
-    r: Rel,
-    s: Rel,
-) -> Option<Rel>
-    requires left { Stands (E.worker engine.old) r }
-    requires right { Stands (E.worker engine.old) s }
-    ensures standing { IfSome result (Stands (E.worker engine.new)) }
-    ensures keeps { Keeps (E.worker engine.old) (E.worker engine.new) }
-{
-    if r.rows > 40 || r.cols > 40 || s.rows > 40 || s.cols > 40 {
-        return None;
-    }
-    let shape = shape_of(r);
-    match operation {
-        Operation::Empty => Some(given(rt, engine.empty(shape))),
-        Operation::Full => Some(given(rt, engine.full(shape))),
-        Operation::Single => single(rt, engine, shape),
-        Operation::Transpose => Some(given(rt, engine.transpose(r))),
-        Operation::Union | Operation::Inter | Operation::Diff => {
-            of_one_type(rt, engine, operation, r, s)
+#[test]
+fn all_operations_on_all_relations_up_to_2_by_2_are_their_membership_clauses(rt: HostRuntime) {
+    let alloc = rt.alloc();
+    let (table, seat) = table(&rt, alloc, 18);
+    let gate = OpenGate;
+    let mut works = Works::new(Crew::new(&rt, &table, seat, 1, &gate));
+    let mut fitting: u64 = 0;
+    'lefts: for (rows, cols, count) in SMALL {
+        'left: for number in 0..count {
+            let left = of_number(&rt, alloc, Shape { rows, cols }, number);
+            'rights: for (rows, cols, count) in SMALL {
+                'right: for number in 0..count {
+                    let right = of_number(&rt, alloc, Shape { rows, cols }, number);
+                    let fit = all_agree(&rt, alloc, &mut works, &left, &right);
+                    fitting = fitting.wrapping_add(fit);
+                }
+            }
         }
-        Operation::Compose | Operation::Right | Operation::Left | Operation::Syq => {
-            of_two_types(rt, engine, operation, r, s)
-        }
-        Operation::Trans | Operation::Refl | Operation::Identity => closed(
-            rt, engine, operation, r,
-        ),
-        Operation::First | Operation::Second | Operation::Inl | Operation::Inr => {
-            Some(of_sizes(rt, engine, operation, r.rows, s.cols))
-        }
-        Operation::Epsi | Operation::Fork => subsets_or_pairs(rt, engine, operation, r, s),
-        _ => chosen(rt, engine, operation, r),
     }
+    assert!(&rt; fitting > 10_000);
 }
 
-/// The relation of the last pair of the grid.
-fn single<E: Engine>(rt: &impl Abort, engine: &mut E, shape: Shape) -> Option<Rel>
-    requires row { shape.rows ≤ 40 }
-    requires col { shape.cols ≤ 40 }
-    ensures standing { IfSome result (Stands (E.worker engine.new)) }
-    ensures keeps { Keeps (E.worker engine.old) (E.worker engine.new) }
-{
-    if shape.rows == 0 || shape.cols == 0 {
-        return None;
-    }
-    Some(given(rt, engine.single(shape, shape.rows - 1, shape.cols - 1)))
-}
-
-/// The cell-wise operators, on relations of one type.
-fn of_one_type<E: Engine>(
-    rt: &impl Abort,
-    engine: &mut E,
-    operation: Operation,
-    r: Rel,
-    s: Rel,
-) -> Option<Rel>
-    requires left { Stands (E.worker engine.old) r }
-    requires right { Stands (E.worker engine.old) s }
-    ensures standing { IfSome result (Stands (E.worker engine.new)) }
-    ensures keeps { Keeps (E.worker engine.old) (E.worker engine.new) }
-{
-    if r.rows != s.rows || r.cols != s.cols {
-        return None;
-    }
-    let answer = match operation {
-        Operation::Union => engine.union(r, s),
-        Operation::Inter => engine.inter(r, s),
-        _ => engine.diff(r, s),
-    };
-    Some(given(rt, answer))
-}
-
-/// Composition, residuals and the symmetric quotient, on relations with one size in common.
-fn of_two_types<E: Engine>(
-    rt: &impl Abort,
-    engine: &mut E,
-    operation: Operation,
-    r: Rel,
-    s: Rel,
-) -> Option<Rel>
-    requires left { Stands (E.worker engine.old) r }
-    requires right { Stands (E.worker engine.old) s }
-    ensures standing { IfSome result (Stands (E.worker engine.new)) }
-    ensures keeps { Keeps (E.worker engine.old) (E.worker engine.new) }
-{
-    match operation {
-        Operation::Compose if r.cols == s.rows => Some(given(rt, engine.compose(r, s))),
-        Operation::Right if r.rows == s.rows => Some(given(rt, engine.right(r, s))),
-        Operation::Left if r.cols == s.cols => Some(given(rt, engine.left(r, s))),
-        Operation::Syq if r.rows == s.rows => Some(given(rt, engine.syq(r, s))),
-        _ => None,
-    }
-}
-
-/// Closures of a square relation, and the identity on its rows.
-fn closed<E: Engine>(rt: &impl Abort, engine: &mut E, operation: Operation, r: Rel) -> Option<Rel>
-    requires standing { Stands (E.worker engine.old) r }
-    requires row { r.rows ≤ 40 }
-    ensures standing { IfSome result (Stands (E.worker engine.new)) }
-    ensures keeps { Keeps (E.worker engine.old) (E.worker engine.new) }
-{
-    match operation {
-        Operation::Identity => Some(given(rt, engine.identity(r.rows))),
-        Operation::Trans if r.rows == r.cols => Some(given(rt, engine.trans(r))),
-        Operation::Refl if r.rows == r.cols => Some(given(rt, engine.refl(r))),
-        _ => None,
-    }
-}
-
-/// Projections and injections, from two sizes.
-fn of_sizes<E: Engine>(rt: &impl Abort, engine: &mut E, operation: Operation, x: u32, y: u32) -> Rel
-    requires row { x ≤ 40 }
-    requires col { y ≤ 40 }
-    ensures standing { Stands (E.worker engine.new) result }
-    ensures keeps { Keeps (E.worker engine.old) (E.worker engine.new) }
-{
-    let answer = match operation {
-        Operation::First => engine.first(x, y),
-        Operation::Second => engine.second(x, y),
-        Operation::Inl => engine.inl(x, y),
-        _ => engine.inr(x, y),
-    };
-    wanted(rt, answer)
-}
-
-/// Membership of few elements, and the pairing.
-fn subsets_or_pairs<E: Engine>(
-    rt: &impl Abort,
-    engine: &mut E,
-    operation: Operation,
-    r: Rel,
-    s: Rel,
-) -> Option<Rel>
-    requires left { Stands (E.worker engine.old) r }
-    requires right { Stands (E.worker engine.old) s }
-    ensures standing { IfSome result (Stands (E.worker engine.new)) }
-    ensures keeps { Keeps (E.worker engine.old) (E.worker engine.new) }
-{
-    match operation {
-        Operation::Epsi if r.rows <= 6 => Some(wanted(rt, engine.epsi(r.rows))),
-        Operation::Fork if r.rows == s.rows => Some(wanted(rt, engine.fork(r, s))),
-        _ => None,
-    }
-}
-
-/// Choice, and the elements of a vector.
-fn chosen<E: Engine>(rt: &impl Abort, engine: &mut E, operation: Operation, r: Rel) -> Option<Rel>
-    requires standing { Stands (E.worker engine.old) r }
-    ensures standing { IfSome result (Stands (E.worker engine.new)) }
-    ensures keeps { Keeps (E.worker engine.old) (E.worker engine.new) }
-{
-    match operation {
-        Operation::Atom => Some(given(rt, engine.atom(r))),
-        Operation::Dom => Some(given(rt, engine.dom(r))),
-        Operation::Ran => Some(given(rt, engine.ran(r))),
-        Operation::Inj if r.cols == 1 => Some(given(rt, engine.inj(r))),
-        Operation::Point if r.cols == 1 => Some(given(rt, engine.point(r))),
-        Operation::Init if r.cols == 1 => Some(given(rt, engine.init(r))),
-        Operation::Next if r.cols == 1 => Some(given(rt, engine.next(r))),
-        _ => None,
+#[test]
+fn all_operations_on_pseudo_random_relations_up_to_24_by_24_are_their_membership_clauses(
+    rt: HostRuntime,
+) {
+    let alloc = rt.alloc();
+    let (table, seat) = table(&rt, alloc, 18);
+    let gate = OpenGate;
+    let mut works = Works::new(Crew::new(&rt, &table, seat, 8, &gate));
+    'cases: for (rows, cols, others, more, one_in) in [
+        (24, 24, 24, 24, 12),
+        (24, 1, 24, 1, 3),
+        (7, 24, 24, 5, 4),
+        (17, 9, 17, 3, 5),
+        (9, 17, 5, 17, 6),
+        (16, 16, 16, 16, 2),
+        (1, 24, 1, 24, 2),
+    ] {
+        let shape = Shape { rows, cols };
+        let left = some_of(&rt, alloc, shape, one_in, 1);
+        let shape = Shape {
+            rows: others,
+            cols: more,
+        };
+        let right = some_of(&rt, alloc, shape, one_in, 2);
+        let fitting = all_agree(&rt, alloc, &mut works, &left, &right);
+        assert!(&rt; fitting > 12);
     }
 }
