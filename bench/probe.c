@@ -1,5 +1,5 @@
 // The same probe in plain C: relaxed loads, one compare-exchange at a vacant place.
-// probe BITS LOAD THREADS LOOKUPS prints what bench_table prints: nanoseconds and counts of inserts and of hits, and the sum of the names.
+// probe BITS LOAD THREADS LOOKUPS prints what `bench_trees table` prints: nanoseconds and counts of inserts and of hits, and the sum of the names.
 #define _POSIX_C_SOURCE 200809L
 #include <pthread.h>
 #include <stdatomic.h>

@@ -1,7 +1,7 @@
 #!/usr/bin/env python3
 """Compares the proved table with the same probe in plain C, in alternating runs.
 
-    cd crates/bench_table && rt run && ../../bench/run.py out/bench_table [ROUNDS]
+    cd crates/bench_trees && rt run && ../../bench/run.py out/bench_trees [ROUNDS]
 
 Prints, for each size, load and number of threads, millions of interns per second
 of both, for inserts and for hits, and the ratio of the times. Each is from the
@@ -15,14 +15,14 @@ import subprocess
 import sys
 
 here = os.path.dirname(os.path.abspath(__file__))
-program = os.path.abspath(sys.argv[1])
+program = [os.path.abspath(sys.argv[1]), "table"]
 rounds = int(sys.argv[2]) if len(sys.argv) > 2 else 5
 plain = os.path.join(here, "out_probe")
 subprocess.run(["cc", "-O2", "-march=x86-64-v2", "-pthread", "-o", plain, os.path.join(here, "probe.c")], check=True)
 
 
 def run(command, case, *more):
-    words = subprocess.run([command, *map(str, case), *more], check=True, capture_output=True, text=True).stdout.split()
+    words = subprocess.run([*command, *map(str, case), *more], check=True, capture_output=True, text=True).stdout.split()
     inserting, inserts, finding, hits, total = map(int, words)
     return inserting / inserts, finding / hits, total
 
@@ -35,9 +35,9 @@ for bits in (20, 24):
             ours, theirs, trees = [], [], []
             for _ in range(rounds):
                 ours.append(run(program, case))
-                theirs.append(run(plain, case))
+                theirs.append(run([plain], case))
                 if threads > 1:
-                    trees.append(run(plain, case, "tree"))
+                    trees.append(run([plain], case, "tree"))
                 if threads == 1:
                     assert ours[-1][2] == theirs[-1][2], "the names differ"
             a, b, c = ([min((r[i] for r in rows), default=None) for i in (0, 1)] for rows in (ours, theirs, trees))

@@ -1,5 +1,5 @@
 // The same trees, operators, probe and memory of results in plain C, for one thread and without a proof.
-// plain BITS CELLS prints what bench_boole prints. Compiled with BLOCKS, dense squares of 256 rows go by their blocks, as the proved operators do; without it all go by quarters. Compiled with COUNTED, it counts: behind each operator come the nodes that it made and the words that it probed, of nodes and of results, cold.
+// plain BITS CELLS prints what `bench_trees boole` prints. Compiled with BLOCKS, dense squares of 256 rows go by their blocks, as the proved operators do; without it all go by quarters. Compiled with COUNTED, it counts: behind each operator come the nodes that it made and the words that it probed, of nodes and of results, cold.
 #define _POSIX_C_SOURCE 200809L
 #include <stdint.h>
 #include <stdio.h>

@@ -1,7 +1,7 @@
 #!/usr/bin/env python3
 """Compares the operators on trees with the same ones in plain C, in alternating runs.
 
-    cd crates/bench_boole && rt run && ../../bench/boole/run.py out/bench_boole [ROUNDS]
+    cd crates/bench_trees && rt run && ../../bench/boole/run.py out/bench_trees [ROUNDS]
 
 Prints, for each density and operator, the milliseconds of both, cold, the ratio of the times, what the C program takes
 where it goes by quarters alone, with the ratio to that, microseconds of both when the call is made again, and the nodes
@@ -17,7 +17,7 @@ import tempfile
 
 here = os.path.dirname(os.path.abspath(__file__))
 os.environ.setdefault("GLIBC_TUNABLES", "glibc.malloc.hugetlb=1")
-program = os.path.abspath(sys.argv[1])
+program = [os.path.abspath(sys.argv[1]), "boole"]
 rounds = int(sys.argv[2]) if len(sys.argv) > 2 else 5
 folder = tempfile.mkdtemp()
 
@@ -25,11 +25,11 @@ folder = tempfile.mkdtemp()
 def compiled(name, *flags):
     out = os.path.join(folder, name)
     subprocess.run(["cc", "-O2", "-march=x86-64-v2", *flags, "-o", out, os.path.join(here, "plain.c")], check=True)
-    return out
+    return [out]
 
 
 def run(command, case):
-    lines = subprocess.run([command, *map(str, case)], check=True, capture_output=True, text=True).stdout.splitlines()
+    lines = subprocess.run([*command, *map(str, case)], check=True, capture_output=True, text=True).stdout.splitlines()
     return [[int(word) for word in line.split()] for line in lines]
 
 

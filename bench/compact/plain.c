@@ -1,6 +1,6 @@
 // The same move in plain C: one walk over uses, each listed behind those of the names of its word, by a set with linear
 // probing that grows as it fills; then the words of new names, placed by the probe of the table.
-// plain BITS SIDE prints what bench_compact prints: nanoseconds, how many words are stored, and a number for them all.
+// plain BITS SIDE prints what `bench_trees compact` prints: nanoseconds, how many words are stored, and a number for them all.
 #define _POSIX_C_SOURCE 200809L
 #include <stdint.h>
 #include <stdio.h>
@@ -21,7 +21,7 @@ static uint32_t place(uint64_t *words, uint64_t word) {
     return (uint32_t)(2 + at);
 }
 
-// ---- the table that is moved, made as bench_compact makes it
+// ---- the table that is moved, made as `bench_trees compact` makes it
 static uint64_t *old, next;
 
 static uint32_t tree(int depth) {

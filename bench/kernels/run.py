@@ -1,7 +1,7 @@
 #!/usr/bin/env python3
 """Compares products of random squares and closures with the same steps in plain C, in alternating runs.
 
-    (cd crates/bench_products && rt run); (cd crates/bench_kernels && rt run); bench/kernels/run.py [ROUNDS]
+    (cd crates/bench_trees && rt run); (cd crates/bench_kernels && rt run); bench/kernels/run.py [ROUNDS]
 
 Prints a row of Markdown for each: the milliseconds of the proved crates and of plain.c, the ratio of both, and the same of
 the recursion by quarters alone (of a closure: by squares, which plain.c does not have). Each time is the shortest of the
@@ -62,7 +62,7 @@ def main():
         print("| work | proved | plain C | time | by quarters or squares alone: proved | plain C | time |")
         print("|---|---|---|---|---|---|---|")
         for table, height, each in PRODUCTS:
-            ours = [CRATES / "bench_products/out/bench_products", table, height, "random", each]
+            ours = [CRATES / "bench_trees/out/bench_trees", "products", table, height, "random", each]
             theirs = [plain, table, "products", height, each]
             compared(f"product, {1 << height} rows, {each} a row", ours, theirs, 1 if height > 12 else rounds, "rows", "quarters")
         for table, graph, vertices in CLOSURES:

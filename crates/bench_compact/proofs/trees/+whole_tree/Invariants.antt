@@ -1,4 +1,0 @@
-use Rattle.bench_compact.proofs.trees.+whole_tree.Given as goal
-
-abbrev pub decreases-whole_tree : goal.decreases-whole_tree
-decreases-whole_tree l = l.depth

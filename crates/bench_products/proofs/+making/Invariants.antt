@@ -1,4 +1,0 @@
-use Rattle.bench_products.proofs.+making.Given as goal
-
-abbrev pub decreases-quad_of : goal.decreases-quad_of
-decreases-quad_of l = l.height

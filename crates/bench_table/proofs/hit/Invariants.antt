@@ -1,6 +1,0 @@
-use Rattle.rel_model.specs.Views.{IsOf}
-use Rattle.bench_table.proofs.hit.Given as goal
-
--- the seat is of the table
-abbrev pub invariant-each : goal.invariant-each
-invariant-each l = IsOf l.seat l.table

@@ -1,0 +1,6 @@
+use Rattle.rel_model.specs.Views.{IsOf}
+use Rattle.bench_trees.proofs.table.insert.Given as goal
+
+-- the seat is of the table
+abbrev pub invariant-each : goal.invariant-each
+invariant-each l = IsOf l.seat l.table
