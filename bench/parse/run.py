@@ -1,7 +1,7 @@
 #!/usr/bin/env python3
 """Times the parser on scripts of three shapes and three lengths.
 
-    cd crates/bench_parse && rt run && ../../bench/parse/run.py out/bench_parse [ROUNDS]
+    cd crates/bench_texts && rt run && ../../bench/parse/run.py out/bench_texts [ROUNDS]
 
 Prints, for each shape and number of names, rows or items, the bytes of the script,
 the milliseconds of one call of `parse`, the megabytes (10^6 bytes) a second and the
@@ -23,7 +23,7 @@ SHAPES = (
 
 
 def run(shape, count):
-    words = subprocess.run([program, shape, str(count)], check=True, capture_output=True, text=True).stdout.split()
+    words = subprocess.run([program, "parse", shape, str(count)], check=True, capture_output=True, text=True).stdout.split()
     taken, length, items = map(int, words)
     assert items == (count if shape == "items" else 1), "another script"
     return taken, length

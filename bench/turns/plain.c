@@ -1,5 +1,5 @@
 // The same turns in plain C, under one pthread mutex.
-// plain PASSES TURNS prints what bench_turns prints: the nanoseconds from the first turn's beginning to the last one's end, and how many events were put.
+// plain PASSES TURNS prints what `bench_texts turns` prints: the nanoseconds from the first turn's beginning to the last one's end, and how many events were put.
 #define _POSIX_C_SOURCE 200809L
 #include <pthread.h>
 #include <sched.h>

@@ -1,9 +1,10 @@
-//! Times `parse`: `bench_parse SHAPE COUNT`, on one chain of COUNT names, one relation of COUNT rows, or COUNT items.
-#![tactic(auto)]
-
+//! Times `parse`: `bench_texts parse SHAPE COUNT`, on one chain of COUNT names, one relation of COUNT rows, or COUNT
+//! items.
+use crate::words::{number, usage};
 use lang_model::limits::SCRIPT_LIMIT;
 use rv_parse::parse;
 use std::alloc::Global;
+use std::env::Args;
 use std::io;
 use std::rt::Clock;
 use std::time::Instant;
@@ -62,25 +63,16 @@ fn measure<R: Print + Clock>(rt: &R, alloc: Global, text: &str) -> io::Result<()
     }
 }
 
-/// The next word as a number; 0 if it is none.
-fn number(word: Option<String>) -> u64 {
-    match word {
-        Some(word) => word.as_str().parse().unwrap_or(0),
-        None => 0,
-    }
-}
-
-fn main(rt: HostRuntime) -> io::Result<()> {
-    let mut words = std::env::args(&rt)?;
-    let _program = words.next();
+/// Measures what the words say.
+pub fn run<R: Print + Clock>(rt: &R, alloc: Global, mut words: Args) -> io::Result<()> {
     let shape = match words.next() {
         Some(word) => shape_of(word.as_str()),
         None => None,
     };
     let count = number(words.next());
     let Some(shape) = shape else {
-        return println!(rt; "usage: bench_parse chain|rows|items COUNT");
+        return usage(rt);
     };
-    let text = script(rt.alloc(), shape, count)?;
-    measure(&rt, rt.alloc(), text.as_str())
+    let text = script(alloc, shape, count)?;
+    measure(rt, alloc, text.as_str())
 }

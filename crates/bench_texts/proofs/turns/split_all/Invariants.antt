@@ -1,7 +1,7 @@
 use Rattle.std.proofs.Common.{◌≡◌, ◌+◌, length, vec_len, vec_capacity, All}
 use Rattle.turn_book.specs.Views.{IsReady}
-use Rattle.bench_turns.specs.Works.{IsWork}
-use Rattle.bench_turns.proofs.split_all.Given as goal
+use Rattle.bench_texts.specs.Works.{IsWork}
+use Rattle.bench_texts.proofs.turns.split_all.Given as goal
 
 abbrev pub invariant-works : goal.invariant-works
 invariant-works l =

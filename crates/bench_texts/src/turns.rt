@@ -1,12 +1,12 @@
-//! Times turns: `bench_turns PASSES TURNS`, with TURNS turns for each pass, and all passes at once.
-#![tactic(auto)]
-
+//! Times turns: `bench_texts turns PASSES TURNS`, with TURNS turns for each pass, and all passes at once.
 ghost use Rattle.std.specs.Prelude.{◌≡◌, ◌≤◌, ◌<◌, ◌+◌, ◌-◌, [], length, vec_capacity, vec_len, All};
 ghost use Rattle.turn_book.specs.Views.{Book, View, IsReady};
-ghost use Rattle.bench_turns.specs.Works.{IsWork};
+ghost use Rattle.bench_texts.specs.Works.{IsWork};
 
+use crate::words::{number, usage};
 use run_model::event::{Act, Event};
 use std::alloc::Global;
+use std::env::Args;
 use std::rt::Clock;
 use std::sync::Wait;
 use std::sync::atomic::{AtomicU64, Ordering};
@@ -59,8 +59,15 @@ fn turn<R: Wait>(rt: &R, book: &TurnBook<Diary>, pass: &mut Pass<Diary>, session
     book.put(pass, diary);
 }
 
+/// The turns of one thread.
 #[inline(never)]
-fn turns<R: Wait>(rt: &R, book: &TurnBook<Diary>, pass: &mut Pass<Diary>, session: u32, count: u32)
+fn take_turns<R: Wait>(
+    rt: &R,
+    book: &TurnBook<Diary>,
+    pass: &mut Pass<Diary>,
+    session: u32,
+    count: u32,
+)
     requires ready { IsReady book.now pass.old }
     ensures ready { IsReady book.now pass.new }
 {
@@ -101,7 +108,7 @@ fn run_work<R: Wait + Clock>(
 {
     meet(there, wanted);
     work.began = nanos(rt, base);
-    turns(rt, book, &mut work.pass, work.number, work.turns);
+    take_turns(rt, book, &mut work.pass, work.number, work.turns);
     work.ended = nanos(rt, base);
 }
 
@@ -187,21 +194,16 @@ fn measure<R: Threads + Wait + Clock + Print + Sync>(
     println!(rt; "{} {}", span(&works), diary.events.len())
 }
 
-/// The next word as a number; 0 if it is none.
-fn number(word: Option<String>) -> u32 {
-    match word {
-        Some(word) => word.as_str().parse().unwrap_or(0),
-        None => 0,
-    }
-}
-
-fn main(rt: HostRuntime) -> io::Result<()> {
-    let mut words = std::env::args(&rt)?;
-    let _program = words.next();
+/// Measures what the words say.
+pub fn run<R: Threads + Wait + Clock + Print + Sync>(
+    rt: &R,
+    alloc: Global,
+    mut words: Args,
+) -> io::Result<()> {
     let passes = number(words.next());
     let turns = number(words.next());
     if passes < 1 || passes > 64 || turns > 10_000_000 {
-        return println!(rt; "usage: bench_turns PASSES TURNS");
+        return usage(rt);
     }
-    measure(&rt, rt.alloc(), passes, turns)
+    measure(rt, alloc, passes as u32, turns as u32)
 }

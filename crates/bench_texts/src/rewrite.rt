@@ -1,14 +1,14 @@
-//! Measures rewriting: `bench_rewrite CALL SHAPE COUNT`, on a chain of COUNT operands of a shape.
+//! Measures rewriting: `bench_texts rewrite CALL SHAPE COUNT`, on a chain of COUNT operands of a shape.
 //!
 //! The calls are `rewrite` and `calm`. The line has the nanoseconds of the one call, the length of the script in bytes,
 //! and the number of steps.
-#![tactic(auto)]
-
+use crate::words::{number, usage};
 use lang_model::limits::SCRIPT_LIMIT;
 use lang_model::syntax::{Command, Expr, Item, Script};
 use rv_parse::parse;
 use rv_rewrite::{calm, rewrite};
 use std::alloc::Global;
+use std::env::Args;
 use std::io;
 use std::rt::Clock;
 use std::time::Instant;
@@ -141,17 +141,8 @@ fn measure<R: Print + Clock>(rt: &R, alloc: Global, call: Call, text: &str) -> i
     }
 }
 
-/// A word as a number; 0 if it is not one.
-fn number(word: Option<String>) -> u64 {
-    match word {
-        Some(word) => word.as_str().parse().unwrap_or(0),
-        None => 0,
-    }
-}
-
-fn main(rt: HostRuntime) -> io::Result<()> {
-    let mut words = std::env::args(&rt)?;
-    let _program = words.next();
+/// Measures what the words say.
+pub fn run<R: Print + Clock>(rt: &R, alloc: Global, mut words: Args) -> io::Result<()> {
     let call = match words.next() {
         Some(word) => call_of(word.as_str()),
         None => None,
@@ -162,8 +153,8 @@ fn main(rt: HostRuntime) -> io::Result<()> {
     };
     let count = number(words.next());
     let (Some(call), Some(shape)) = (call, shape) else {
-        return println!(rt; "usage: bench_rewrite rewrite|calm SHAPE COUNT");
+        return usage(rt);
     };
-    let text = script(rt.alloc(), shape, count)?;
-    measure(&rt, rt.alloc(), call, text.as_str())
+    let text = script(alloc, shape, count)?;
+    measure(rt, alloc, call, text.as_str())
 }
