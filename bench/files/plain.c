@@ -1,5 +1,5 @@
 // Relation files of version 1, written and read in plain C, over the same trees and the same probe of a table of node words, for one thread and without a proof.
-// plain BITS TASK HEIGHT PAIRS prints what bench_files prints of the tasks random and full. Compiled with NODES, it keeps the words of nodes that a reading asks for, and prints how long these alone take in a table of their own, cold and again, how many were asked for and how many made.
+// plain BITS TASK HEIGHT PAIRS prints what `bench_engine files` prints of the tasks random and full. Compiled with NODES, it keeps the words of nodes that a reading asks for, and prints how long these alone take in a table of their own, cold and again, how many were asked for and how many made.
 #define _POSIX_C_SOURCE 200809L
 #include <stdint.h>
 #include <stdio.h>

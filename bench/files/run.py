@@ -1,7 +1,7 @@
 #!/usr/bin/env python3
 """Compares relation files with the same format written and read in plain C, in alternating runs.
 
-    cd crates/bench_files && rt run && ../../bench/files/run.py out/bench_files [ROUNDS]
+    cd crates/bench_engine && rt run && ../../bench/files/run.py out/bench_engine [ROUNDS]
 
 Prints, for each relation, megabytes a second of both, of writing and of reading,
 and the ratio of the times. Of reading there are two lines: into a table in which
@@ -19,7 +19,7 @@ import sys
 import tempfile
 
 here = os.path.dirname(os.path.abspath(__file__))
-program = os.path.abspath(sys.argv[1])
+program = [os.path.abspath(sys.argv[1]), "files"]
 rounds = int(sys.argv[2]) if len(sys.argv) > 2 else 5
 folder = tempfile.mkdtemp()
 
@@ -27,11 +27,11 @@ folder = tempfile.mkdtemp()
 def compiled(name, source, *flags):
     out = os.path.join(folder, name)
     subprocess.run(["cc", "-O2", "-march=x86-64-v2", *flags, "-o", out, os.path.join(here, source)], check=True)
-    return out
+    return [out]
 
 
 def run(command, case):
-    lines = subprocess.run([command, *map(str, case)], check=True, capture_output=True, text=True).stdout.splitlines()
+    lines = subprocess.run([*command, *map(str, case)], check=True, capture_output=True, text=True).stdout.splitlines()
     return [[int(word) for word in line.split()[1:]] for line in lines]
 
 

@@ -1,5 +1,5 @@
 // Relation files of version 2, written and read in plain C, over the trees and the table of plain.c, for one thread and without a proof.
-// shared BITS HEIGHT PAIRS prints what bench_files prints of the task shared: a file of one relation A, read as a whole, and once more by its name.
+// shared BITS HEIGHT PAIRS prints what `bench_engine files` prints of the task shared: a file of one relation A, read as a whole, and once more by its name.
 #define main main_of_version_1
 #include "plain.c"
 #undef main

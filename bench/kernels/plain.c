@@ -1,6 +1,6 @@
 // The same trees, products and closures in plain C, by the same steps, for one thread and without a proof.
 // plain BITS products HEIGHT CELLS prints what `bench_trees products` prints of its random squares.
-// plain BITS random|acyclic|cycle VERTICES prints the line of bench_kernels for a closure by quarters.
+// plain BITS random|acyclic|cycle VERTICES prints the line of `bench_engine kernels` for a closure by quarters.
 #define _POSIX_C_SOURCE 200809L
 #include <stdint.h>
 #include <stdio.h>

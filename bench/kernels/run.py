@@ -1,7 +1,7 @@
 #!/usr/bin/env python3
 """Compares products of random squares and closures with the same steps in plain C, in alternating runs.
 
-    (cd crates/bench_trees && rt run); (cd crates/bench_kernels && rt run); bench/kernels/run.py [ROUNDS]
+    (cd crates/bench_trees && rt run); (cd crates/bench_engine && rt run); bench/kernels/run.py [ROUNDS]
 
 Prints a row of Markdown for each: the milliseconds of the proved crates and of plain.c, the ratio of both, and the same of
 the recursion by quarters alone (of a closure: by squares, which plain.c does not have). Each time is the shortest of the
@@ -66,7 +66,7 @@ def main():
             theirs = [plain, table, "products", height, each]
             compared(f"product, {1 << height} rows, {each} a row", ours, theirs, 1 if height > 12 else rounds, "rows", "quarters")
         for table, graph, vertices in CLOSURES:
-            ours = [CRATES / "bench_kernels/out/bench_kernels", table, graph, vertices]
+            ours = [CRATES / "bench_engine/out/bench_engine", "kernels", table, graph, vertices]
             compared(f"closure, {graph}, {vertices}", ours, [plain, table, graph, vertices], rounds, "quarters", "squares")
 
 

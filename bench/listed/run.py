@@ -1,11 +1,11 @@
 #!/usr/bin/env python3
 """Times listed relations: the whole program, and the library at sizes that its scripts do not have yet.
 
-    ./relview examples/first.rv && (cd crates/bench_listed && rt run)
-    bench/listed/run.py crates/relview/out/relview crates/bench_listed/out/bench_listed [ROUNDS]
+    ./relview examples/first.rv && (cd crates/bench_engine && rt run)
+    bench/listed/run.py crates/relview/out/relview crates/bench_engine/out/bench_engine [ROUNDS]
 
 The program runs scripts of one REL of pseudo-random pairs in 1000 x 1000, the greatest
-sizes that scripts list for now, and a PRINT of a small union. `bench_listed` reads scripts
+sizes that scripts list for now, and a PRINT of a small union. `bench_engine listed` reads scripts
 of one such REL in 4096 x 4096 and two small ones, by the parser of the whole language, and
 builds the relations over an engine with a table of the program's size, unites the small
 ones, and counts. Prints for each number of listed pairs the bytes of the script, the
@@ -31,14 +31,14 @@ def script(pairs, size, last):
     return f"REL A {size} {size} {{{listed}}}. REL B 3 3 {{1:2}}. REL C 3 3 {{2:3}}.{last}", len(set(picked))
 
 
-def run(program, name):
+def run(command, name):
     reading, writing = os.pipe()
     begin = time.monotonic()
     child = os.fork()
     if child == 0:
         os.dup2(writing, 1)
         os.chdir(folder)
-        os.execv(program, [program, name])
+        os.execv(command[0], [*command, name])
     os.close(writing)
     page = b""
     while part := os.read(reading, 65536):
@@ -49,19 +49,19 @@ def run(program, name):
     return status, page, seconds, used.ru_maxrss * 1024
 
 
-def measure(program, size, last, page):
-    print(f"{os.path.basename(program)}, {size} by {size}")
+def measure(command, size, last, page):
+    print(f"{' '.join([os.path.basename(command[0]), *command[1:]])}, {size} by {size}")
     print(" pairs   bytes of script   seconds   bytes of memory")
     for pairs in (0, 1_000, 10_000, 100_000):
         name = f"{size}-{pairs}.rv"
         text, distinct = script(pairs, size, last)
         with open(os.path.join(folder, name), "w") as file:
             file.write(text)
-        runs = [run(program, name) for _ in range(rounds)]
+        runs = [run(command, name) for _ in range(rounds)]
         for status, written, _, _ in runs:
             assert status == 0 and written == page(distinct), (status, written)
         print(f"{pairs:6} {len(text):17} {min(r[2] for r in runs):9.3f} {min(r[3] for r in runs):17}")
 
 
-measure(os.path.abspath(sys.argv[1]), 1000, " PRINT B|C.", lambda distinct: b"1.4: 3 x 3\n.1.\n..1\n...\n")
-measure(os.path.abspath(sys.argv[2]), 4096, "", lambda distinct: b"%d 2\n" % distinct)
+measure([os.path.abspath(sys.argv[1])], 1000, " PRINT B|C.", lambda distinct: b"1.4: 3 x 3\n.1.\n..1\n...\n")
+measure([os.path.abspath(sys.argv[2]), "listed"], 4096, "", lambda distinct: b"%d 2\n" % distinct)

@@ -1,5 +1,0 @@
-use Rattle.rel_model.specs.Listed.{AreWithin}
-use Rattle.bench_files.proofs.chance.pairs_within.Given as goal
-
-abbrev pub invariant-pairs : goal.invariant-pairs
-invariant-pairs l = AreWithin l.side l.side l.pairs.items

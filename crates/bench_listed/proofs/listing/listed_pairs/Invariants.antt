@@ -1,5 +1,0 @@
-use Rattle.rel_model.specs.Listed.{AreWithin}
-use Rattle.bench_listed.proofs.listing.listed_pairs.Given as goal
-
-abbrev pub invariant-rows : goal.invariant-rows
-invariant-rows l = AreWithin l.shape.rows l.shape.cols l.pairs.items
