@@ -43,8 +43,9 @@ fn spill<Q: Quads>(quads: &mut Q, q: Quad, z: &mut [Row], row: usize, col: usize
     spill(quads, se, z, row + half, col + half);
 }
 
-/// The quad of the cells of rows, from a row and a column on. A square without a cell is recognised before it is cut.
-fn gather<Q: Quads>(
+/// The quad of the cells of 256 rows of bits, from a row and a column on. A square without a cell is recognised before it
+/// is cut.
+pub fn gather<Q: Quads>(
     quads: &mut Q,
     z: &[Row],
     height: u8,

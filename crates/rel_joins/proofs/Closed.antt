@@ -17,7 +17,7 @@ sized : ℕ → ℕ → List (ℕ × ℕ) → Relation
 sized m n pairs = record { rows = m; cols = n; pairs = pairs }
 
 -- a square relation has only its size and its pairs
-square_same : (n : ℕ) (r : Relation) → HasType n n r → square_of n r.pairs ≡ r
+pub square_same : (n : ℕ) (r : Relation) → HasType n n r → square_of n r.pairs ≡ r
 unfolding sized
 square_same n r t = ap (λ (m : ℕ). sized m n r.pairs) (sym t.row_size) ∙ ap (λ (m : ℕ). sized r.rows m r.pairs) (sym t.col_size)
 

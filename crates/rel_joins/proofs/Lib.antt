@@ -3,3 +3,8 @@ pub mod Joins
 pub mod Products
 pub mod Reaches
 pub mod Closed
+pub mod Leaving
+pub mod Uniting
+pub mod Tiling
+pub mod Raising
+pub mod Wholes

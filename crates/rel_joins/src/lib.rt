@@ -2,12 +2,16 @@
 #![tactic(auto)]
 
 mod closure;
+mod columns;
 mod index;
 mod joining;
+mod ordered;
 mod paying;
+mod postorder;
 mod product;
 mod reaching;
 mod sampling;
+mod squares;
 
 pub use closure::close_by_lists;
 pub use paying::scattered_pairs;

@@ -19,8 +19,11 @@ const THIN: u64 = 4;
 /// A closure may have so many full rows among its first ones, as that of a tree has, and still be sparse.
 const FULL_ROWS: u64 = 8;
 
-/// A product is left to trees if it may fill more than one cell in so many.
-const SPARSE: u64 = 64;
+/// A product is left to trees if it may fill more than one cell in so many, and a closure if it does.
+pub(crate) const SPARSE: u64 = 64;
+
+/// A closure that can be found by rows of bits is, if it fills more than one cell in so many.
+pub(crate) const SPARSE_IN_ORDER: u64 = 512;
 
 /// With fewer pairs than one for so many rows, an index of the rows costs more than the recursion on trees.
 const ROWS_A_PAIR: u64 = 16;
@@ -99,14 +102,16 @@ pub(crate) fn pays<Q: Quads>(q: &mut Q, r: Rel, s: Rel) -> Option<(usize, usize)
     Some((listed_at_most(lefts), listed_at_most(rights)))
 }
 
-/// Whether so many pairs in the first rows of a closure of `n` elements are few enough for lists: no more than one cell
-/// in `SPARSE`, beside `FULL_ROWS` full rows.
-pub(crate) fn is_sparse_so_far(n: u32, rows: u32, pairs: usize) -> bool {
+/// Whether so many pairs in the first rows of a closure of `n` elements are few enough for lists: no more than one for
+/// each `cells_a_pair` cells, beside `FULL_ROWS` full rows.
+pub(crate) fn is_sparse_so_far(n: u32, rows: u32, pairs: usize, cells_a_pair: u64) -> bool
+    requires { 0 < cells_a_pair }
+{
     let cells = u64::from(n).saturating_mul(u64::from(rows));
     pairs as u64
         <= u64::from(n)
             .saturating_mul(FULL_ROWS)
-            .saturating_add(cells / SPARSE)
+            .saturating_add(cells / cells_a_pair)
 }
 
 /// How many pairs of a relation are listed at most, if its transitive closure by lists pays: the relation is large,

@@ -7,7 +7,6 @@ ghost use Rattle.rel_joins.specs.Starts.{IsIndex};
 ghost use Rattle.rel_joins.specs.Joins.{joined_limit};
 ghost use Rattle.rel_joins.specs.Reaches.{AreClosed, Adds, Closing};
 
-use crate::index::index_of;
 use crate::joining::{MOST_JOINED, row_of};
 use crate::paying::is_sparse_so_far;
 use std::alloc::Global;
@@ -125,14 +124,16 @@ fn zeros(alloc: Global, n: u32) -> Option<Vec<u32>>
     }
 }
 
-/// The pairs of the closure, row by row. The rows of `pairs` begin at `starts`. `None`: the closure is not sparse, or
-/// there is no memory for its pairs.
-fn close_rows(
+/// The pairs of the transitive closure of `n` elements with the given pairs, row by row. The rows of `pairs` begin at
+/// `starts`. `None`: there is more than one pair for so many cells, or no memory for the pairs.
+pub(crate) fn close_rows(
     alloc: Global,
     n: u32,
     pairs: &[(u32, u32)],
     starts: &[usize],
+    cells_a_pair: u64,
 ) -> Option<Vec<(u32, u32)>>
+    requires some { 0 < cells_a_pair }
     requires index { IsIndex n pairs.now starts.now }
     requires within { AreWithin n n pairs.now }
     requires order { IsIncreasing pairs.now }
@@ -147,23 +148,9 @@ fn close_rows(
         let Some(()) = note_reached(&mut listed, &mut places, pairs, starts, i) else {
             return None;
         };
-        if !is_sparse_so_far(n, i + 1, listed.len()) {
+        if !is_sparse_so_far(n, i + 1, listed.len(), cells_a_pair) {
             return None;
         }
     }
     Some(listed)
-}
-
-/// The pairs of the transitive closure of `n` elements with the given pairs. `None`: there are too many, or there is no
-/// memory for them.
-pub(crate) fn close(alloc: Global, n: u32, pairs: &[(u32, u32)]) -> Option<Vec<(u32, u32)>>
-    requires within { AreWithin n n pairs.now }
-    requires order { IsIncreasing pairs.now }
-    ensures closed { IfSome result (λ v. AreClosed n pairs.now v.items) }
-    ensures few { IfSome result (λ v. length v.items ≤ joined_limit) }
-{
-    match index_of(alloc, n, pairs) {
-        Ok(starts) => close_rows(alloc, n, pairs, &starts),
-        Err(_) => None,
-    }
 }

@@ -20,6 +20,14 @@ fn below(state: u64, bound: u32) -> u32
     ((state >> 33) % bound as u64) as u32
 }
 
+/// 7x + 3 modulo n.
+fn seventh(x: u32, n: u32) -> u32
+    requires { 0 < n }
+    ensures { result < n }
+{
+    ((7 * u64::from(x) + 3) % u64::from(n)) as u32
+}
+
 /// `count` random pairs. Some may be listed twice.
 pub(crate) fn pairs_by_chance(
     alloc: Global,
@@ -105,6 +113,23 @@ pub(crate) fn rising_by_chance(
         }
     }
     Ok(pairs)
+}
+
+/// The pairs of a list with other numbers for their elements: 7x + 3 modulo n for x, so that no two have the same if 7
+/// does not divide n.
+pub(crate) fn renumbered(
+    alloc: Global,
+    n: u32,
+    pairs: &[(u32, u32)],
+) -> Result<Vec<(u32, u32)>, AllocError>
+    requires { 0 < n }
+    ensures { IfOk result (λ v. AreWithin n n v.items) }
+{
+    let mut others = Vec::new(alloc);
+    'pairs: for (i, j) in pairs {
+        others.push((seventh(*i, n), seventh(*j, n)))?;
+    }
+    Ok(others)
 }
 
 /// The pairs (i, k) for which some j has (i, j) in the first list and (j, k) in the second: looks for each pair of the

@@ -4,7 +4,9 @@
 ghost use Rattle.std.specs.Prelude.{◌≡◌, ◌<◌};
 ghost use Rattle.rel_model.specs.Listed.{AreWithin};
 
-use crate::joins::chance::{chain_of, cycle_of, pairs_by_chance, rising_by_chance, tree_by_chance};
+use crate::joins::chance::{
+    chain_of, cycle_of, pairs_by_chance, renumbered, rising_by_chance, tree_by_chance,
+};
 use crate::joins::of_pairs;
 use crate::joins::trial::closes_on_a_crew;
 use rel_closure::trans;
@@ -15,13 +17,15 @@ use std::alloc::Global;
 use std::process::Abort;
 use std::thread::Threads;
 
-/// A kind of graph: a chain, a cycle, a random tree, or so many random pairs, either all rising or any.
+/// A kind of graph: a chain, a cycle, a random tree, or so many random pairs: all rising, so that they do not go in a
+/// circle, the same with other numbers for the elements, or any.
 #[derive(Clone, Copy, Debug)]
 pub(crate) enum Kind {
     Chain,
     Cycle,
     Tree,
     Rising(u32),
+    Renumbered(u32),
     Any(u32),
 }
 
@@ -35,6 +39,10 @@ fn edges(rt: &impl Abort, alloc: Global, kind: Kind, n: u32) -> Vec<(u32, u32)>
         Kind::Cycle => cycle_of(alloc, n),
         Kind::Tree => tree_by_chance(alloc, n, 5),
         Kind::Rising(count) => rising_by_chance(alloc, n, count, 7),
+        Kind::Renumbered(count) => match rising_by_chance(alloc, n, count, 13) {
+            Ok(rising) => renumbered(alloc, n, &rising),
+            Err(error) => Err(error),
+        },
         Kind::Any(count) => pairs_by_chance(alloc, Shape { rows: n, cols: n }, count, 11),
     };
     let Ok(pairs) = made else {
@@ -77,6 +85,15 @@ fn closures_of_scattered_graphs_are_those_by_squaring(rt: HostRuntime) {
     has(&rt, rt.alloc(), Kind::Tree, 4000, true);
     has(&rt, rt.alloc(), Kind::Rising(1000), 1000, true);
     has(&rt, rt.alloc(), Kind::Rising(3000), 2000, true);
+}
+
+#[test]
+fn closures_of_graphs_without_cycles_need_not_be_sparse(rt: HostRuntime) {
+    has(&rt, rt.alloc(), Kind::Rising(1500), 480, true);
+    has(&rt, rt.alloc(), Kind::Rising(1100), 512, true);
+    has(&rt, rt.alloc(), Kind::Rising(3000), 769, true);
+    has(&rt, rt.alloc(), Kind::Renumbered(2000), 1000, true);
+    has(&rt, rt.alloc(), Kind::Renumbered(8192), 4096, true);
 }
 
 #[test]
