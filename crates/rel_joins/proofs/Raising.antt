@@ -2,13 +2,13 @@
 -- 1. Squares that stand keep their cells, so what they make together stays the same set.
 -- 2. A square alone is a window of that set; where there is none, the window is empty.
 -- 3. Four windows are the quarters of one of twice the side.
-use Rattle.std.proofs.Common.{◌≡◌, ◌<◌, ◌≤◌, ◌+◌, ◌-◌, ◌*◌, ◌/◌, ◌%◌, ◌^◌, ◌∙◌, ◌&&◌, max, ltb, suc, ℕ, Bool, false, List, Option, Some, None, Result, refl, sym, ap, subst, inl, inr, arith, length, get_or}
-use Rattle.std.specs.Prelude.{IsSome, unwrap_or}
+-- 4. Quarters that are made one after the other are all of the set as it was at first.
+use Rattle.std.proofs.Common.{◌≡◌, ◌≢◌, ◌<◌, ◌≤◌, ◌+◌, ◌-◌, ◌*◌, ◌/◌, ◌%◌, ◌^◌, ◌∙◌, ◌&&◌, max, ltb, suc, ℕ, Bool, false, List, [], ◌∷◌, Option, Some, None, refl, sym, ap, subst, inl, inr, arith, length, get_or}
+use Rattle.std.specs.Prelude.{Ok, IsSome, unwrap_or}
 use Rattle.std.proofs.Math.Nat.{pow-suc, one-le-pow}
 use Rattle.std.proofs.lemmas.Bool.{false≢true, cases_lt, lt-ltb, le-ltb, and_left, and_right}
 use Rattle.std.proofs.lemmas.Nat.{mul-le, pow-add}
 use Rattle.rel_model.specs.declared.Quad.{Quad}
-use Rattle.rel_model.specs.declared.Lack.{Lack}
 use Rattle.rel_model.specs.Cells.{Cells, no_cells}
 use Rattle.rel_model.specs.Trees.{top_height}
 use Rattle.rel_model.specs.Quarters.{LiesWithin}
@@ -18,6 +18,7 @@ use Rattle.rel_model.proofs.Rooting.{outside}
 use Rattle.rel_steps.specs.Making.{MakesQuad}
 use Rattle.rel_steps.proofs.Empty.{empty_given}
 use Rattle.rel_steps.proofs.Given.{AreParts, kept_set, kept_quad}
+use Rattle.rel_steps.proofs.Making.{Underway, begun, goes_on}
 use Rattle.rel_closure.proofs.OverQuads.{double_side}
 use Rattle.rel_closure.proofs.OverRows.{gathered_parts}
 use Rattle.bit_rows.specs.Places.{window}
@@ -109,16 +110,31 @@ raised_parts h row col half f l e =
     subst (λ (y : ℕ). AreParts h (window (256 * row) (256 * col) (2 ^ h) f) (h - 1) (window (256 * row) (256 * col) n f) (window (256 * row) y n f) (window (256 * (row + half)) (256 * col) n f) (window (256 * (row + half)) y n f)) c
     (subst (λ (x : ℕ). AreParts h (window (256 * row) (256 * col) (2 ^ h) f) (h - 1) (window (256 * row) (256 * col) n f) (window (256 * row) (256 * col + 256 * half) n f) (window x (256 * col) n f) (window x (256 * col + 256 * half) n f)) r p)
 
--- a quarter, of the set as it was at first
-pub as_first : {lean : Bool} {k h : ℕ} {f g : Cells} {v w : Worker} {x : Result Quad Lack} (r c n : ℕ) → f ≡ g → MakesQuad lean k h (window r c n f) v w x → MakesQuad lean k h (window r c n g) v w x
-as_first {lean} {k} {h} {f} {g} {v} {w} {x} r c n e m = subst (λ (z : Cells). MakesQuad lean k h (window r c n z) v w x) e m
+-- a square is passed
+pub over_square : {h : ℕ} → 8 ≤ h → h ≢ 8 → 8 < h
+over_square l n = omega (arith, l, n)
 
--- a quarter fits where the whole does
-pub quarter_fits : (h half row : ℕ) → 8 < h → half ≡ 2 ^ (h - 8 - 1) → row + 2 ^ (h - 8) ≤ 256 → (row + 2 ^ (h - 1 - 8) ≤ 256) × (row + half + 2 ^ (h - 1 - 8) ≤ 256)
-quarter_fits h half row l e f =
-    let d = double_side (h - 8 - 1) (h - 8) (omega (arith, l)) in
+-- the quarters lie where the whole does, and are not too small
+pub record Quarters (h half row col : ℕ) : Type 0 where
+  pub low : 8 ≤ h - 1
+  pub high : h - 1 ≤ 16
+  pub upper : row + 2 ^ (h - 1 - 8) ≤ 256
+  pub lower : row + half + 2 ^ (h - 1 - 8) ≤ 256
+  pub left : col + 2 ^ (h - 1 - 8) ≤ 256
+  pub right : col + half + 2 ^ (h - 1 - 8) ≤ 256
+
+pub quarters : (h half row col : ℕ) → 8 < h → h ≤ 16 → half ≡ 2 ^ (h - 8 - 1) → row + 2 ^ (h - 8) ≤ 256 → col + 2 ^ (h - 8) ≤ 256 → Quarters h half row col
+quarters h half row col over high e rows cols =
+    let d = double_side (h - 8 - 1) (h - 8) (omega (arith, over)) in
     let s : 2 ^ (h - 1 - 8) ≡ 2 ^ (h - 8 - 1) = ap (λ (x : ℕ). 2 ^ x) (omega arith) in
-    (omega (arith, d, s, f), omega (arith, d, s, f, e))
+    record {
+      low = omega (arith, over);
+      high = omega (arith, high);
+      upper = omega (arith, d, s, rows);
+      lower = omega (arith, d, s, rows, e);
+      left = omega (arith, d, s, cols);
+      right = omega (arith, d, s, cols, e);
+    }
 
 -- four quarters and a corner have room
 pub raise_next : (h : ℕ) → 8 < h → 4 * (4 ^ (h - 1 - 8) - 1) + 3 ≡ 4 ^ (h - 8) - 1
@@ -136,3 +152,32 @@ not_top k h e l = omega (arith, e, l)
 pub under_top : (h : ℕ) → h ≤ 16 → h ≤ top_height
 unfolding top_height
 under_top h l = omega (arith, l)
+
+-- ---- quarters made one after the other
+-- a quarter of side 2^(h - 1), from a square on
+abbrev pub quarter : (h row col : ℕ) → Cells → Cells
+quarter h row col f = window (256 * row) (256 * col) (2 ^ (h - 1)) f
+
+-- one more
+next_made : {lean : Bool} {m n : ℕ} {squares : List Quad} {ps : List (Quad × Cells)} {u v w : Worker} {q : Quad} (h blocks row col : ℕ) → AreSquares u squares → length squares ≡ blocks * blocks → Underway m (h - 1) ps u v
+    → MakesQuad lean n (h - 1) (quarter h row col (tiled v blocks squares)) v w (Ok q) → Underway (m + n) (h - 1) ((q, quarter h row col (tiled u blocks squares)) ∷ ps) u w
+next_made {lean} {m} {n} {squares} {ps} {u} {v} {w} {q} h blocks row col s all a made =
+    goes_on a (subst (λ (f : Cells). MakesQuad lean n (h - 1) (quarter h row col f) v w (Ok q)) (tiled_kept blocks squares s all a.keeps) made)
+
+pub one_made : {lean : Bool} {n h : ℕ} {f : Cells} {u v : Worker} {q : Quad} → MakesQuad lean n h f u v (Ok q) → Underway (0 + n) h ((q, f) ∷ []) u v
+one_made a = goes_on (begun _) a
+
+pub two_made : {lean : Bool} {n : ℕ} {squares : List Quad} {f : Cells} {u v w : Worker} {p q : Quad} (h blocks row col half : ℕ) → AreSquares u squares → length squares ≡ blocks * blocks → MakesQuad lean n (h - 1) f u v (Ok p)
+    → MakesQuad lean n (h - 1) (quarter h row (col + half) (tiled v blocks squares)) v w (Ok q) → Underway (0 + n + n) (h - 1) ((q, quarter h row (col + half) (tiled u blocks squares)) ∷ (p, f) ∷ []) u w
+two_made h blocks row col half s all a b = next_made h blocks row (col + half) s all (one_made a) b
+
+pub three_made : {lean : Bool} {n : ℕ} {squares : List Quad} {f : Cells} {u v w x : Worker} {o p q : Quad} (h blocks row col half : ℕ) → AreSquares u squares → length squares ≡ blocks * blocks → MakesQuad lean n (h - 1) f u v (Ok o)
+    → MakesQuad lean n (h - 1) (quarter h row (col + half) (tiled v blocks squares)) v w (Ok p) → MakesQuad lean n (h - 1) (quarter h (row + half) col (tiled w blocks squares)) w x (Ok q)
+    → let g : Cells = tiled u blocks squares in Underway (0 + n + n + n) (h - 1) ((q, quarter h (row + half) col g) ∷ (p, quarter h row (col + half) g) ∷ (o, f) ∷ []) u x
+three_made h blocks row col half s all a b c = next_made h blocks (row + half) col s all (two_made h blocks row col half s all a b) c
+
+pub four_made : {lean : Bool} {n : ℕ} {squares : List Quad} {f : Cells} {u v w x y : Worker} {o p q r : Quad} (h blocks row col half : ℕ) → AreSquares u squares → length squares ≡ blocks * blocks → MakesQuad lean n (h - 1) f u v (Ok o)
+    → MakesQuad lean n (h - 1) (quarter h row (col + half) (tiled v blocks squares)) v w (Ok p) → MakesQuad lean n (h - 1) (quarter h (row + half) col (tiled w blocks squares)) w x (Ok q)
+    → MakesQuad lean n (h - 1) (quarter h (row + half) (col + half) (tiled x blocks squares)) x y (Ok r)
+    → let g : Cells = tiled u blocks squares in Underway (0 + n + n + n + n) (h - 1) ((r, quarter h (row + half) (col + half) g) ∷ (q, quarter h (row + half) col g) ∷ (p, quarter h row (col + half) g) ∷ (o, f) ∷ []) u y
+four_made h blocks row col half s all a b c d = next_made h blocks (row + half) (col + half) s all (three_made h blocks row col half s all a b c) d

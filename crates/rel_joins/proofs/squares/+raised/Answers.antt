@@ -6,9 +6,9 @@ use Rattle.bit_rows.specs.Places.{window}
 use Rattle.std.proofs.lemmas.List.{get_or_default}
 use Rattle.rel_model.proofs.Workers.{keeps_itself}
 use Rattle.rel_steps.proofs.Causes.{done_cause}
-use Rattle.rel_steps.proofs.Making.{begun, goes_on, failed, stops, four_stand, corner_made}
+use Rattle.rel_steps.proofs.Making.{begun, failed, stops, four_stand, corner_made}
 use Rattle.rel_joins.specs.Columns.{no_square, tiled}
-use Rattle.rel_joins.proofs.Raising.{squares_kept, tiled_kept, place_below, square_value, outside_value, raised_parts, as_first, quarter_fits, raise_next, not_top, under_top}
+use Rattle.rel_joins.proofs.Raising.{squares_kept, place_below, square_value, outside_value, raised_parts, over_square, quarters, one_made, two_made, three_made, four_made, raise_next, not_top, under_top}
 use Rattle.rel_joins.proofs.squares.+raised.Goals as goal
 
 -- ---- no square, and one
@@ -18,7 +18,7 @@ returns-then-max-blocks g t c =
     let a = c.requires.leaf in
     let l = c.requires.low in
     record {
-      value = outside_value (g.Q.Core.worker o) c.args.height c.args.blocks c.args.row c.args.col c.args.squares.now _ (omega (arith, c.if-max-blocks.true, c.max.ensures)) c.empty.ensures (g.met.Q.Quads.none o c.args.height (omega (arith, a, l)) (under_top c.args.height c.requires.high));
+      value = outside_value (g.Q.Core.worker o) c.args.height c.args.blocks c.args.row c.args.col c.args.squares.now c.empty.result (omega (arith, c.if-max-blocks.true, c.max.ensures)) c.empty.ensures (g.met.Q.Quads.none o c.args.height (omega (arith, a, l)) (under_top c.args.height c.requires.high));
       keeps = keeps_itself _;
       room = omega arith;
       cause = done_cause _ _ _ _ refl;
@@ -46,149 +46,77 @@ returns-then-height-eq-SQUARE g t c =
       cause = done_cause _ _ _ _ refl;
     }
 
+-- ---- four quarters, and their corner
 pub raised-requires : goal.raised-requires
 raised-requires g t c κs within =
-    let l = c.requires.low in
-    let n = c.if-height-eq-SQUARE.false in
-    let over : 8 < c.args.height = omega (arith, l, n) in
-    let sq = c.requires.squares in
-    let all = c.requires.all in
-    let falls : c.args.height - 1 < t = (let d = c.decreases in omega (arith, over, d)) in
-    let rows = quarter_fits c.args.height c.side_of-half.result c.args.row over c.side_of-half.ensures c.requires.row_in in
-    let cols = quarter_fits c.args.height c.side_of-half.result c.args.col over c.side_of-half.ensures c.requires.col_in in
-    (falls, (within, (c.requires.leaf, (omega (arith, over), (omega (arith, c.requires.high), (all, (sq, (rows.0, cols.0))))))))
+    let a = c.args in
+    let over = over_square c.requires.low c.if-height-eq-SQUARE.false in
+    let falls : a.height - 1 < t = (let d = c.decreases in omega (arith, over, d)) in
+    let q = quarters a.height c.side_of-half.result a.row a.col over c.requires.high c.side_of-half.ensures c.requires.row_in c.requires.col_in in
+    (falls, (within, (c.requires.leaf, (q.low, (q.high, (c.requires.all, (c.requires.squares, (q.upper, q.left))))))))
 
 pub raised-requires-2 : goal.raised-requires-2
 raised-requires-2 g t c κs within =
-    let l = c.requires.low in
-    let n = c.if-height-eq-SQUARE.false in
-    let over : 8 < c.args.height = omega (arith, l, n) in
-    let sq = c.requires.squares in
-    let all = c.requires.all in
-    let u1 = goes_on (begun (g.Q.Core.worker c.args.q.now)) c.in_ok-nw.ensures in
-    let falls : c.args.height - 1 < t = (let d = c.decreases in omega (arith, over, d)) in
-    let rows = quarter_fits c.args.height c.side_of-half.result c.args.row over c.side_of-half.ensures c.requires.row_in in
-    let cols = quarter_fits c.args.height c.side_of-half.result c.args.col over c.side_of-half.ensures c.requires.col_in in
-    (falls, (within, (c.requires.leaf, (omega (arith, over), (omega (arith, c.requires.high), (all, (squares_kept sq u1.keeps, (rows.0, cols.1))))))))
+    let a = c.args in
+    let over = over_square c.requires.low c.if-height-eq-SQUARE.false in
+    let falls : a.height - 1 < t = (let d = c.decreases in omega (arith, over, d)) in
+    let q = quarters a.height c.side_of-half.result a.row a.col over c.requires.high c.side_of-half.ensures c.requires.row_in c.requires.col_in in
+    (falls, (within, (c.requires.leaf, (q.low, (q.high, (c.requires.all, (squares_kept c.requires.squares (one_made c.in_ok-nw.ensures).keeps, (q.upper, q.right))))))))
 
 pub raised-requires-3 : goal.raised-requires-3
 raised-requires-3 g t c κs within =
-    let l = c.requires.low in
-    let n = c.if-height-eq-SQUARE.false in
-    let over : 8 < c.args.height = omega (arith, l, n) in
-    let sq = c.requires.squares in
-    let all = c.requires.all in
-    let u1 = goes_on (begun (g.Q.Core.worker c.args.q.now)) c.in_ok-nw.ensures in
-    let u2 = goes_on u1 (as_first _ _ _ (tiled_kept c.args.blocks c.args.squares.now sq all u1.keeps) c.in_ok-ne.ensures) in
-    let falls : c.args.height - 1 < t = (let d = c.decreases in omega (arith, over, d)) in
-    let rows = quarter_fits c.args.height c.side_of-half.result c.args.row over c.side_of-half.ensures c.requires.row_in in
-    let cols = quarter_fits c.args.height c.side_of-half.result c.args.col over c.side_of-half.ensures c.requires.col_in in
-    (falls, (within, (c.requires.leaf, (omega (arith, over), (omega (arith, c.requires.high), (all, (squares_kept sq u2.keeps, (rows.1, cols.0))))))))
+    let a = c.args in
+    let over = over_square c.requires.low c.if-height-eq-SQUARE.false in
+    let falls : a.height - 1 < t = (let d = c.decreases in omega (arith, over, d)) in
+    let q = quarters a.height c.side_of-half.result a.row a.col over c.requires.high c.side_of-half.ensures c.requires.row_in c.requires.col_in in
+    (falls, (within, (c.requires.leaf, (q.low, (q.high, (c.requires.all, (squares_kept c.requires.squares (two_made a.height a.blocks a.row a.col c.side_of-half.result c.requires.squares c.requires.all c.in_ok-nw.ensures c.in_ok-ne.ensures).keeps, (q.lower, q.left))))))))
 
 pub raised-requires-4 : goal.raised-requires-4
 raised-requires-4 g t c κs within =
-    let l = c.requires.low in
-    let n = c.if-height-eq-SQUARE.false in
-    let over : 8 < c.args.height = omega (arith, l, n) in
-    let sq = c.requires.squares in
-    let all = c.requires.all in
-    let u1 = goes_on (begun (g.Q.Core.worker c.args.q.now)) c.in_ok-nw.ensures in
-    let u2 = goes_on u1 (as_first _ _ _ (tiled_kept c.args.blocks c.args.squares.now sq all u1.keeps) c.in_ok-ne.ensures) in
-    let u3 = goes_on u2 (as_first _ _ _ (tiled_kept c.args.blocks c.args.squares.now sq all u2.keeps) c.in_ok-sw.ensures) in
-    let falls : c.args.height - 1 < t = (let d = c.decreases in omega (arith, over, d)) in
-    let rows = quarter_fits c.args.height c.side_of-half.result c.args.row over c.side_of-half.ensures c.requires.row_in in
-    let cols = quarter_fits c.args.height c.side_of-half.result c.args.col over c.side_of-half.ensures c.requires.col_in in
-    (falls, (within, (c.requires.leaf, (omega (arith, over), (omega (arith, c.requires.high), (all, (squares_kept sq u3.keeps, (rows.1, cols.1))))))))
+    let a = c.args in
+    let over = over_square c.requires.low c.if-height-eq-SQUARE.false in
+    let falls : a.height - 1 < t = (let d = c.decreases in omega (arith, over, d)) in
+    let q = quarters a.height c.side_of-half.result a.row a.col over c.requires.high c.side_of-half.ensures c.requires.row_in c.requires.col_in in
+    (falls, (within, (c.requires.leaf, (q.low, (q.high, (c.requires.all, (squares_kept c.requires.squares (three_made a.height a.blocks a.row a.col c.side_of-half.result c.requires.squares c.requires.all c.in_ok-nw.ensures c.in_ok-ne.ensures c.in_ok-sw.ensures).keeps, (q.lower, q.right))))))))
 
 pub returns-in_err-nw : goal.returns-in_err-nw
-returns-in_err-nw g t c =
-    let l = c.requires.low in
-    let n = c.if-height-eq-SQUARE.false in
-    let over : 8 < c.args.height = omega (arith, l, n) in
-    let sq = c.requires.squares in
-    let all = c.requires.all in
-    let r = raise_next c.args.height over in
-    stops c.from_residual.result c.from_residual.ensures.1 (omega (arith, r)) (begun {h = 0} _) c.in_err-nw.ensures
+returns-in_err-nw g t c = let r = raise_next c.args.height (over_square c.requires.low c.if-height-eq-SQUARE.false) in stops c.from_residual.result c.from_residual.ensures.1 (omega (arith, r)) (begun {h = 0} _) c.in_err-nw.ensures
 
 pub returns-in_err-ne : goal.returns-in_err-ne
-returns-in_err-ne g t c =
-    let l = c.requires.low in
-    let n = c.if-height-eq-SQUARE.false in
-    let over : 8 < c.args.height = omega (arith, l, n) in
-    let sq = c.requires.squares in
-    let all = c.requires.all in
-    let u1 = goes_on (begun (g.Q.Core.worker c.args.q.now)) c.in_ok-nw.ensures in
-    let r = raise_next c.args.height over in
-    stops c.from_residual-in_err-ne.result c.from_residual-in_err-ne.ensures.1 (omega (arith, r)) u1 c.in_err-ne.ensures
+returns-in_err-ne g t c = let r = raise_next c.args.height (over_square c.requires.low c.if-height-eq-SQUARE.false) in stops c.from_residual-in_err-ne.result c.from_residual-in_err-ne.ensures.1 (omega (arith, r)) (one_made c.in_ok-nw.ensures) c.in_err-ne.ensures
 
 pub returns-in_err-sw : goal.returns-in_err-sw
 returns-in_err-sw g t c =
-    let l = c.requires.low in
-    let n = c.if-height-eq-SQUARE.false in
-    let over : 8 < c.args.height = omega (arith, l, n) in
-    let sq = c.requires.squares in
-    let all = c.requires.all in
-    let u1 = goes_on (begun (g.Q.Core.worker c.args.q.now)) c.in_ok-nw.ensures in
-    let u2 = goes_on u1 (as_first _ _ _ (tiled_kept c.args.blocks c.args.squares.now sq all u1.keeps) c.in_ok-ne.ensures) in
-    let r = raise_next c.args.height over in
-    stops c.from_residual-in_err-sw.result c.from_residual-in_err-sw.ensures.1 (omega (arith, r)) u2 c.in_err-sw.ensures
+    let a = c.args in
+    let r = raise_next a.height (over_square c.requires.low c.if-height-eq-SQUARE.false) in
+    stops c.from_residual-in_err-sw.result c.from_residual-in_err-sw.ensures.1 (omega (arith, r)) (two_made a.height a.blocks a.row a.col c.side_of-half.result c.requires.squares c.requires.all c.in_ok-nw.ensures c.in_ok-ne.ensures) c.in_err-sw.ensures
 
 pub returns-in_err-se : goal.returns-in_err-se
 returns-in_err-se g t c =
-    let l = c.requires.low in
-    let n = c.if-height-eq-SQUARE.false in
-    let over : 8 < c.args.height = omega (arith, l, n) in
-    let sq = c.requires.squares in
-    let all = c.requires.all in
-    let u1 = goes_on (begun (g.Q.Core.worker c.args.q.now)) c.in_ok-nw.ensures in
-    let u2 = goes_on u1 (as_first _ _ _ (tiled_kept c.args.blocks c.args.squares.now sq all u1.keeps) c.in_ok-ne.ensures) in
-    let u3 = goes_on u2 (as_first _ _ _ (tiled_kept c.args.blocks c.args.squares.now sq all u2.keeps) c.in_ok-sw.ensures) in
-    let r = raise_next c.args.height over in
-    stops c.from_residual-in_err-se.result c.from_residual-in_err-se.ensures.1 (omega (arith, r)) u3 c.in_err-se.ensures
+    let a = c.args in
+    let r = raise_next a.height (over_square c.requires.low c.if-height-eq-SQUARE.false) in
+    stops c.from_residual-in_err-se.result c.from_residual-in_err-se.ensures.1 (omega (arith, r)) (three_made a.height a.blocks a.row a.col c.side_of-half.result c.requires.squares c.requires.all c.in_ok-nw.ensures c.in_ok-ne.ensures c.in_ok-sw.ensures) c.in_err-se.ensures
 
 pub corner-requires : goal.corner-requires
 corner-requires g t c =
-    let l = c.requires.low in
-    let n = c.if-height-eq-SQUARE.false in
-    let over : 8 < c.args.height = omega (arith, l, n) in
-    let sq = c.requires.squares in
-    let all = c.requires.all in
-    let u1 = goes_on (begun (g.Q.Core.worker c.args.q.now)) c.in_ok-nw.ensures in
-    let u2 = goes_on u1 (as_first _ _ _ (tiled_kept c.args.blocks c.args.squares.now sq all u1.keeps) c.in_ok-ne.ensures) in
-    let u3 = goes_on u2 (as_first _ _ _ (tiled_kept c.args.blocks c.args.squares.now sq all u2.keeps) c.in_ok-sw.ensures) in
-    let u4 = goes_on u3 (as_first _ _ _ (tiled_kept c.args.blocks c.args.squares.now sq all u3.keeps) c.in_ok-se.ensures) in
-    let a = u4.are in
-    let f = four_stand a.1.1.1.0 a.1.1.0 a.1.0 a.0 in
-    let below = not_top c.in_ok-nw.nw.height c.args.height c.in_ok-nw.ensures.value.same_height c.requires.high in
+    let a = c.args in
+    let made = (four_made a.height a.blocks a.row a.col c.side_of-half.result c.requires.squares c.requires.all c.in_ok-nw.ensures c.in_ok-ne.ensures c.in_ok-sw.ensures c.in_ok-se.ensures).are in
+    let f = four_stand made.1.1.1.0 made.1.1.0 made.1.0 made.0 in
+    let below = not_top c.in_ok-nw.nw.height a.height c.in_ok-nw.ensures.value.same_height c.requires.high in
     record { nw_stands = f.nw_stands; ne_stands = f.ne_stands; sw_stands = f.sw_stands; se_stands = f.se_stands; ne_height = f.ne_height; sw_height = f.sw_height; se_height = f.se_height; below = below }
 
 pub returns-in_err-all : goal.returns-in_err-all
 returns-in_err-all g t c =
-    let l = c.requires.low in
-    let n = c.if-height-eq-SQUARE.false in
-    let over : 8 < c.args.height = omega (arith, l, n) in
-    let sq = c.requires.squares in
-    let all = c.requires.all in
-    let u1 = goes_on (begun (g.Q.Core.worker c.args.q.now)) c.in_ok-nw.ensures in
-    let u2 = goes_on u1 (as_first _ _ _ (tiled_kept c.args.blocks c.args.squares.now sq all u1.keeps) c.in_ok-ne.ensures) in
-    let u3 = goes_on u2 (as_first _ _ _ (tiled_kept c.args.blocks c.args.squares.now sq all u2.keeps) c.in_ok-sw.ensures) in
-    let u4 = goes_on u3 (as_first _ _ _ (tiled_kept c.args.blocks c.args.squares.now sq all u3.keeps) c.in_ok-se.ensures) in
-    let r = raise_next c.args.height over in
+    let a = c.args in
+    let r = raise_next a.height (over_square c.requires.low c.if-height-eq-SQUARE.false) in
     let e = c.in_err-all.ensures in
-    stops c.from_residual-in_err-all.result c.from_residual-in_err-all.ensures.1 (omega (arith, r)) u4 (failed 3 e.keeps e.room e.cause)
+    stops c.from_residual-in_err-all.result c.from_residual-in_err-all.ensures.1 (omega (arith, r)) (four_made a.height a.blocks a.row a.col c.side_of-half.result c.requires.squares c.requires.all c.in_ok-nw.ensures c.in_ok-ne.ensures c.in_ok-sw.ensures c.in_ok-se.ensures) (failed 3 e.keeps e.room e.cause)
 
 pub returns : goal.returns
 returns g t c =
-    let l = c.requires.low in
-    let n = c.if-height-eq-SQUARE.false in
-    let over : 8 < c.args.height = omega (arith, l, n) in
-    let sq = c.requires.squares in
-    let all = c.requires.all in
-    let u1 = goes_on (begun (g.Q.Core.worker c.args.q.now)) c.in_ok-nw.ensures in
-    let u2 = goes_on u1 (as_first _ _ _ (tiled_kept c.args.blocks c.args.squares.now sq all u1.keeps) c.in_ok-ne.ensures) in
-    let u3 = goes_on u2 (as_first _ _ _ (tiled_kept c.args.blocks c.args.squares.now sq all u2.keeps) c.in_ok-sw.ensures) in
-    let u4 = goes_on u3 (as_first _ _ _ (tiled_kept c.args.blocks c.args.squares.now sq all u3.keeps) c.in_ok-se.ensures) in
-    let r = raise_next c.args.height over in
-    let p = raised_parts c.args.height c.args.row c.args.col c.side_of-half.result (tiled (g.Q.Core.worker c.args.q.now) c.args.blocks c.args.squares.now) over c.side_of-half.ensures in
+    let a = c.args in
+    let over = over_square c.requires.low c.if-height-eq-SQUARE.false in
+    let r = raise_next a.height over in
+    let p = raised_parts a.height a.row a.col c.side_of-half.result (tiled (g.Q.Core.worker a.q.now) a.blocks a.squares.now) over c.side_of-half.ensures in
     let e = c.in_ok-all.ensures in
-    corner_made (omega (arith, r)) p u4 e.value e.keeps e.room e.cause
+    corner_made (omega (arith, r)) p (four_made a.height a.blocks a.row a.col c.side_of-half.result c.requires.squares c.requires.all c.in_ok-nw.ensures c.in_ok-ne.ensures c.in_ok-sw.ensures c.in_ok-se.ensures) e.value e.keeps e.room e.cause
