@@ -15,7 +15,7 @@ use rel_model::quads_trait::Quads;
 use rel_model::{Lack, Quad, Rel, Shape};
 use std::alloc::Global;
 
-/// The greatest height: 65,536 rows of 256 columns take 2 MB, and the names of their squares half as much again.
+/// The greatest height: 65,536 rows of 256 columns take 2 MB, and the names of all squares half a megabyte.
 const HIGHEST: u8 = 16;
 
 /// What a closure by rows of bits works on.
